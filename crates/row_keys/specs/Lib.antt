@@ -1,0 +1,5 @@
+pub mod Forms
+pub mod Keys
+pub mod Marks
+pub mod MetadataRow
+pub mod RowOrder
