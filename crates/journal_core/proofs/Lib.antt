@@ -1,0 +1,4 @@
+pub mod JournalLemmas
+pub mod Laid
+pub mod ReadingLemmas
+pub mod RecordsLemmas

@@ -1,0 +1,5 @@
+pub mod Records
+pub mod Changes
+pub mod Parts
+pub mod Value
+pub mod Journal
