@@ -1,0 +1,10 @@
+pub mod ChildrenLemmas
+pub mod FoldLemmas
+pub mod ImageLemmas
+pub mod MultiLemmas
+pub mod Multis
+pub mod OpenLemmas
+pub mod PathMaps
+pub mod ReadingLemmas
+pub mod StopLemmas
+pub mod UnaskedLemmas

@@ -1,0 +1,10 @@
+pub mod PathsTo
+pub mod Nodes
+pub mod Multi
+pub mod Value
+pub mod Image
+pub mod Steps
+pub mod Answers
+pub mod Children
+pub mod Laws
+pub mod Reading
