@@ -1,0 +1,10 @@
+pub mod Numerals
+pub mod CreatingLemmas
+pub mod LawsLemmas
+pub mod ValueLemmas
+pub mod ReadingLemmas
+pub mod TablesLemmas
+pub mod DiskLemmas
+pub mod FirstLemmas
+pub mod AltersMore
+pub mod StoreLemmas

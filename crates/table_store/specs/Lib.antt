@@ -1,0 +1,11 @@
+pub mod Plain
+pub mod Creating
+pub mod Laws
+pub mod Numbers
+pub mod Tables
+pub mod Layout
+pub mod Reading
+pub mod Kept
+pub mod StoreValue
+pub mod Inside
+pub mod Appending

@@ -1,0 +1,150 @@
+// New tables.
+ghost use Rattle.std.specs.Prelude.{◌≡◌, ◌+◌, ◌<◌, ◌^◌, ◌++◌, ◌∷◌, [], true, false, Ok, IfOk, IfErr, OnOk, OnErr, IsTrue};
+ghost use Rattle.std.specs.FinMap as map;
+ghost use Rattle.host_model.specs.Alters.{Alters};
+ghost use Rattle.row_keys.specs.Forms.{IsWordName};
+ghost use Rattle.node_store.specs.Nodes.{multi_applied};
+ghost use Rattle.node_store.specs.Image.{IsNodeFile, IsStored};
+ghost use Rattle.node_store.specs.Steps.{MayGive, Gives};
+ghost use Rattle.node_store.specs.Answers.{IsFull};
+ghost use Rattle.table_store.specs.Numbers.{base36};
+ghost use Rattle.table_store.specs.Tables.{is_taken};
+ghost use Rattle.table_store.specs.Layout.{nodes_name, create_ops};
+ghost use Rattle.table_store.specs.Kept.{IsKept};
+ghost use Rattle.table_store.specs.StoreValue.{MayCreate, Creates, HasCreated, IsCreateFull, CreateStops, IsUnasked};
+ghost use Rattle.table_store.specs.Appending.{Applies, IsFullOrNoMemory};
+ghost use Rattle.table_store.specs.Creating.{creation, DrawStops, CommitStops};
+
+use crate::appending::append;
+use crate::ids::table_id;
+use crate::index::TableIndex;
+use crate::nodes::create_ops;
+use crate::operation::{Entry, Op, Source};
+use crate::store::TableStore;
+use crate::values::NUMBER_END;
+use host_model::{Host, Stop};
+use node_store::{NodeOp, NodeStore};
+use row_keys::{Rows, TableId, TableName};
+use std::alloc::{AllocError, Global};
+
+fn creation(alloc: Global, line: u32, id: &TableId, name: &TableName) -> Result<Entry, AllocError>
+    ensures is { IfOk result (λ entry. entry ≡ creation line id.now name.now) }
+    ensures named { OnOk result (IsWordName name.now) }
+{
+    Ok(Entry {
+        op: Op::Create {
+            id: id.copy(alloc)?,
+            name: name.copy(alloc)?,
+            splits: Rows::new(alloc),
+        },
+        source: Source::Line(line),
+        line,
+        lock: None,
+    })
+}
+
+/// Adds a table under the next number, and gives the changes that make it and its entry.
+fn draw(
+    alloc: Global,
+    by_name: &mut TableIndex,
+    next: u64,
+    line: u32,
+    name: TableName,
+) -> Result<(Vec<NodeOp>, Entry), Stop>
+    requires { next < 2 ^ 63 }
+    ensures added { OnOk result (by_name.new ≡ map.insert by_name.old name (base36 next)) }
+    ensures below { OnOk result (next + 1 < 2 ^ 63) }
+    ensures named { OnOk result (IsWordName name) }
+    ensures ops { IfOk result (λ drawn. drawn.0.items ≡ create_ops (base36 next) name (next + 1)) }
+    ensures entry { IfOk result (λ drawn. drawn.1 ≡ creation line (base36 next) name) }
+    ensures stops { IfErr result (λ stop. DrawStops stop next) }
+{
+    if next + 1 >= NUMBER_END {
+        return Err(Stop::Full);
+    }
+    let id = table_id(alloc, next)?;
+    let ops = create_ops(alloc, &id, &name, next + 1)?;
+    let entry = creation(alloc, line, &id, &name)?;
+    by_name.insert(name, id)?;
+    Ok((ops, entry))
+}
+
+fn offer(entries: &mut Vec<Entry>, entry: Entry) -> Result<(), AllocError>
+    ensures ok { OnOk result (entries.new.items ≡ entries.old.items ++ entry ∷ []) }
+    ensures err { OnErr result (entries.new.items ≡ entries.old.items) }
+{
+    entries.push(entry)?;
+    Ok(())
+}
+
+/// Makes changes that apply, and puts their entry behind the others. A crash inside leaves all of the changes or none.
+/// The entry is put there first, so that nothing can fail behind the changes.
+fn commit<H: Host>(
+    nodes: &mut NodeStore,
+    host: &mut H,
+    ops: &[NodeOp],
+    entries: &mut Vec<Entry>,
+    entry: Entry,
+) -> Result<(), Stop>
+    requires stored { IsTrue (H.state host.old).is_faithful → IsStored nodes.old (H.state host.old).files }
+    requires applies { Applies ops.now nodes.old.nodes }
+    ensures alters { Alters (IsNodeFile nodes.old.name) (MayGive ops.now nodes.old) (Gives ops.now nodes.old) result (H.state host.old) (H.state host.new) }
+    ensures ok { OnOk result (multi_applied ops.now nodes.old.nodes ≡ Ok nodes.new.nodes) }
+    ensures entered { OnOk result (entries.new.items ≡ entries.old.items ++ entry ∷ []) }
+    ensures name { nodes.new.name ≡ nodes.old.name }
+    ensures stored { IsTrue (H.state host.new).is_faithful → OnOk result (IsStored nodes.new (H.state host.new).files) }
+    ensures stops { IfErr result (λ stop. CommitStops stop ops.now nodes.old entry entries.old.items entries.new.items (H.state host.old) (H.state host.new)) }
+    ensures due { IsFull ops.now nodes.old → IsFullOrNoMemory result }
+    ensures untouched { IfErr result (λ stop. IsUnasked stop → host.new ≡ host.old) }
+{
+    offer(entries, entry)?;
+    match append(nodes, host, ops) {
+        Ok(()) => Ok(()),
+        Err(Stop::Host(fault)) => Err(Stop::Host(fault)),
+        Err(stop) => {
+            entries.pop();
+            Err(stop)
+        }
+    }
+}
+
+impl TableStore {
+    /// Makes a table of this name under the next number, as the operation of the line of this number. False comes
+    /// exactly where a table has the name, and then nothing is done. It answers `Full` where the next number would reach
+    /// 2^63 or the nodes have no room for the changes, `NoMemory`, or a fault of the host. After an error the store has
+    /// stopped, and only a fault of the host leaves the entry in doubt. A crash inside leaves the store with the table or
+    /// without it. Costs one multi of the nodes, and the logarithm of the number of tables. This project's own.
+    pub fn create_table<H: Host>(
+        &mut self,
+        host: &mut H,
+        line: u32,
+        name: TableName,
+    ) -> Result<bool, Stop>
+        requires running { self.old.is_stopped ≡ false }
+        requires sure { self.old.doubt ≡ [] }
+        requires stored { IsTrue (H.state host.old).is_faithful → IsStored self.old.nodes (H.state host.old).files }
+        ensures taken { is_taken name self.old.tables ≡ true → result ≡ Ok false }
+        ensures same { is_taken name self.old.tables ≡ true → (self.new ≡ self.old) × (host.new ≡ host.old) }
+        ensures made { is_taken name self.old.tables ≡ false → IfOk result (λ made. made ≡ true) }
+        ensures created { is_taken name self.old.tables ≡ false → OnOk result (HasCreated line name self.old self.new) }
+        ensures stored { IsTrue (H.state host.new).is_faithful → OnOk result (IsStored self.new.nodes (H.state host.new).files) }
+        ensures kept { IsTrue (H.state host.new).is_faithful → OnOk result (IsKept (H.state host.new).files self.new.tables) }
+        ensures alters { is_taken name self.old.tables ≡ false → Alters (IsNodeFile nodes_name) (MayCreate name self.old.tables) (Creates name self.old.tables) result (H.state host.old) (H.state host.new) }
+        ensures stopped { IfErr result (λ stop. self.new.is_stopped ≡ true) }
+        ensures history { IfErr result (λ stop. self.new.history ≡ self.old.history) }
+        ensures stops { IfErr result (λ stop. CreateStops stop line name self.old self.new (H.state host.old) (H.state host.new)) }
+        ensures due { is_taken name self.old.tables ≡ false → IsCreateFull name self.old → IsFullOrNoMemory result }
+        ensures untouched { IfErr result (λ stop. IsUnasked stop → host.new ≡ host.old) }
+    {
+        if self.by_name.contains(&name) {
+            return Ok(false);
+        }
+        self.is_stopped = true;
+        let (ops, entry) = draw(self.alloc, &mut self.by_name, self.next, line, name)?;
+        commit(&mut self.nodes, host, &ops, &mut self.entries, entry)?;
+        self.committed = self.entries.len();
+        self.next += 1;
+        self.is_stopped = false;
+        Ok(true)
+    }
+}

@@ -1,0 +1,14 @@
+// What holds of the tables of images.
+ghost use Rattle.table_store.specs.Laws.{TablesAreOne, CreatedIsApplied, TakenIsRefused};
+
+/// An image has one list of tables, at the most.
+pub fn tables_are_one()
+    ensures { TablesAreOne }
+{}
+
+/// The plain state after a table was made is what its operation makes of the plain state before, and an operation is
+/// refused where its name is taken.
+pub fn created_is_applied()
+    ensures made { CreatedIsApplied }
+    ensures refused { TakenIsRefused }
+{}

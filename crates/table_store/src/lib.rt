@@ -1,0 +1,20 @@
+//! The tables of a store, kept in its nodes.
+#![tactic(auto)]
+
+mod appending;
+mod creating;
+mod disk;
+mod ids;
+mod index;
+mod laws;
+mod nodes;
+mod operation;
+mod reading;
+mod stop;
+mod store;
+mod values;
+
+pub use laws::{created_is_applied, tables_are_one};
+pub use operation::{Entries, Entry, Op, Source};
+pub use stop::StoreStop;
+pub use store::TableStore;
