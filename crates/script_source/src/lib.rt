@@ -1,0 +1,6 @@
+//! The lines of a script, which is heard in pieces and never held whole.
+#![tactic(auto)]
+
+mod script;
+
+pub use script::{Heard, MAX_LINE, Script};
