@@ -1,0 +1,110 @@
+-- What a `createtable` does, from what the store of tables says of it.
+use Rattle.std.proofs.Common.{◌≡◌, ◌⊎◌, inl, inr, ⊎_elim, ℕ, Bool, true, false, if◌then◌else◌, List, [], ◌∷◌, ◌++◌, Option, Some, None, Result, Ok, Err, IsTrue, refl, sym, ◌∙◌, ap, subst}
+use Rattle.host_model.specs.Picture.{Picture, Image}
+use Rattle.host_model.specs.State.{HostState}
+use Rattle.host_model.specs.Calls.{IsSound, IsOfFiles, Counted}
+use Rattle.host_model.specs.Leaves.{LeavesOnly, Shows, AllSettled}
+use Rattle.host_model.specs.Alters.{Alters}
+use Rattle.host_model.specs.declared.fault.HostFault.{HostFault}
+use Rattle.host_model.specs.declared.fault.HostFault.TheVariants.{Disk, Source, Sink, Memory}
+use Rattle.host_model.specs.declared.fault.Stop.{Stop}
+use Rattle.host_model.specs.declared.fault.Stop.TheVariants.{Host, Damaged, Full, NoMemory}
+use Rattle.host_model.proofs.CallsLemmas.{still_faithful, was_faithful}
+use Rattle.host_model.proofs.LeavesLemmas.{alters_leave}
+use Rattle.node_store.specs.Image.{IsNodeFile, IsStored}
+use Rattle.script_words.specs.declared.line.Line.{Line}
+use Rattle.script_words.specs.declared.line.Line.TheVariants.{CreateTable}
+use Rattle.script_words.specs.declared.reply.Answer.{Answer}
+use Rattle.script_words.specs.declared.reply.Answer.TheVariants.{Ok as Done, Refused}
+use Rattle.script_words.specs.declared.reply.Refusal.TheVariants.{Exists}
+use Rattle.table_store.specs.Layout.{nodes_name}
+use Rattle.table_store.specs.Tables.{Tables, created, is_taken}
+use Rattle.table_store.specs.Kept.{IsKept}
+use Rattle.table_store.specs.StoreValue.{StoreValue, MayCreate, Creates, HasCreated, CreateStops, IsUnasked, entry_of}
+use Rattle.table_store.specs.declared.operation.Entry.{Entry}
+use Rattle.shell.specs.Serving.{answer_to, tables_after, entries_of}
+use Rattle.shell.proofs.LineLemmas.{only_start}
+use Rattle.shell.specs.LineServed.{IsSure, IsBefore, DidNothing, IsInDoubt, LineStops, DoesLine}
+
+module _ (number : ℕ) (name : List ℕ) (old new : StoreValue) (before now : HostState) (sound : IsSound before) (sure : IsSure old before) (free : is_taken name old.tables ≡ false) where
+  after_is : tables_after (CreateTable name) old.tables ≡ created name old.tables
+  after_is = ap (λ (b : Bool). if b then old.tables else created name old.tables) free
+
+  entries_are : entries_of number (CreateTable name) old.tables ≡ entry_of number name old.tables ∷ []
+  entries_are = ap (λ (b : Bool). if b then [] else entry_of number name old.tables ∷ []) free
+
+  answer_is : answer_to (CreateTable name) old.tables ≡ Some Done
+  answer_is = ap (λ (b : Bool). Some (if b then Refused (Exists name) else Done)) free
+
+  after_kept : {image : Image} → IsKept image (created name old.tables) → IsKept image (tables_after (CreateTable name) old.tables)
+  after_kept {image} kept = subst (λ t. IsKept image t) (sym after_is) kept
+
+  may_kept : {image : Image} → IsKept image old.tables ⊎ IsKept image (created name old.tables) → IsKept image old.tables ⊎ IsKept image (tables_after (CreateTable name) old.tables)
+  may_kept either = ⊎_elim (λ kept. inl kept) (λ kept. inr (after_kept kept)) either
+
+  module _ {result : Result Bool Stop} (alters : Alters (IsNodeFile nodes_name) (MayCreate name old.tables) (Creates name old.tables) result before now) where
+    shows : IsTrue before.is_honest → AllSettled before → LeavesOnly (Shows (λ image. IsKept image old.tables ⊎ IsKept image (tables_after (CreateTable name) old.tables)) before.said) before now
+    shows h rests =
+        let kept : IsKept before.files old.tables = sure.kept (sound.faithful h) in
+        alters_leave (Shows (λ image. IsKept image old.tables ⊎ IsKept image (tables_after (CreateTable name) old.tables)) before.said) sound h rests alters
+        (record { image = inl kept; said_is = refl }) (λ p step said. record { image = may_kept (step.each kept); said_is = said })
+
+  -- the table is made
+  pub made_line : {made : Bool} → Alters (IsNodeFile nodes_name) (MayCreate name old.tables) (Creates name old.tables) {T = Bool} {E = Stop} (Ok made) before now → HasCreated number name old new
+      → (IsTrue now.is_faithful → IsStored new.nodes now.files) → (IsTrue now.is_faithful → IsKept now.files new.tables)
+      → DoesLine number (CreateTable name) (Ok (Some Done)) old new before now
+  made_line alters has stored kept = record {
+    quiet = alters.quiet;
+    answer = sym answer_is;
+    running = has.running;
+    sure = record { stored = stored; kept = kept };
+    doubt = has.doubt;
+    tables = has.tables ∙ sym after_is;
+    history = has.history ∙ ap (λ (l : List Entry). old.history ++ l) (sym entries_are);
+    halts = λ f. tt;
+    stops = tt;
+    leaves = shows alters;
+    rests = λ h rests. alters.rests h rests;
+  }
+
+  stops_so : (stop : Stop) → CreateStops stop number name old new before now → LineStops stop new before now
+  stops_so (Host Disk) why = why.1
+  stops_so (Host Source) why = why.0
+  stops_so (Host Sink) why = absurd why.0
+  stops_so (Host Memory) why = why.1
+  stops_so (Damaged named) why = why
+  stops_so Full why = why.0
+  stops_so NoMemory why = why
+
+  -- a stop fell into it
+  pub stopped_line : (stop : Stop) → Alters (IsNodeFile nodes_name) (MayCreate name old.tables) (Creates name old.tables) {T = Bool} {E = Stop} (Err stop) before now → new.history ≡ old.history → CreateStops stop number name old new before now
+      → (IsUnasked stop → now ≡ before) → DoesLine number (CreateTable name) (Err stop) old new before now
+  stopped_line stop alters history why untouched = record {
+    quiet = alters.quiet;
+    answer = tt;
+    running = tt;
+    sure = tt;
+    doubt = tt;
+    tables = tt;
+    history = tt;
+    halts = λ f. halts_at f stop (alters.tried f) why untouched;
+    stops = stops_so stop why;
+    leaves = shows alters;
+    rests = λ h rests. tt;
+  }
+    where
+      nothing : IsTrue before.is_faithful → new.doubt ≡ [] → now ≡ before → DidNothing old new before now
+      nothing f doubt same = record {
+        history = history;
+        doubt = doubt;
+        said = ap (λ (s : HostState). s.said) same;
+        kept = subst (λ (s : HostState). IsKept s.files old.tables) (sym same) (sure.kept f);
+        leaves = λ h rests. subst (λ (s : HostState). LeavesOnly (IsBefore old.tables before.said) before s) (sym same) (only_start sound h rests (record { kept = sure.kept f; said_is = refl }));
+      }
+
+      halts_at : IsTrue before.is_faithful → (s : Stop) → MayCreate name old.tables before.files now.files → CreateStops s number name old new before now → (IsUnasked s → now ≡ before)
+          → DidNothing old new before now ⊎ IsInDoubt number (CreateTable name) old new before now
+      halts_at f (Host fault) step cause same = inr (record { history = history; doubt = cause.2 ∙ sym entries_are; said = alters.quiet.said f; kept = may_kept (step.each (sure.kept f)) })
+      halts_at f (Damaged named) step cause same = absurd cause
+      halts_at f Full step cause same = inl (nothing f cause.0 (same tt))
+      halts_at f NoMemory step cause same = inl (nothing f cause (same tt))

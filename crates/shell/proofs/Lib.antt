@@ -1,0 +1,11 @@
+pub mod OverLemmas
+pub mod LineLemmas
+pub mod CreateLemmas
+pub mod ServeLemmas
+pub mod SplitLemmas
+pub mod ScriptLemmas
+pub mod StepLemmas
+pub mod EndLemmas
+pub mod AfterLemmas
+pub mod RunLemmas
+pub mod OpeningLemmas

@@ -1,0 +1,6 @@
+pub mod Script
+pub mod Serving
+pub mod LineServed
+pub mod ScriptServed
+pub mod Ending
+pub mod Running

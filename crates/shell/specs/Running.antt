@@ -1,0 +1,99 @@
+-- What a run ensures.
+use Rattle.std.specs.Prelude.{◌≡◌, ◌⊎◌, ℕ, ◌++◌, take, Bool, true, false, List, Result, IfOk, IfErr, OnOk, IsTrue, option_to_list}
+use Rattle.host_model.specs.Picture.{Image, Picture}
+use Rattle.host_model.specs.State.{HostState}
+use Rattle.host_model.specs.Calls.{Keeps, IsQuiet, Looks}
+use Rattle.host_model.specs.Leaves.{LeavesOnly, Shows, AllSettled}
+use Rattle.host_model.specs.declared.fault.Stop.{Stop}
+use Rattle.host_model.specs.declared.fault.Stop.TheVariants.{NoMemory}
+use Rattle.table_store.specs.Tables.{Tables, no_tables}
+use Rattle.table_store.specs.Kept.{IsKept, IsUnbornDisk}
+use Rattle.table_store.specs.StoreValue.{StoreValue, IsFresh, InitStops, OpenStops}
+use Rattle.table_store.specs.declared.operation.Entry.{Entry}
+use Rattle.table_store.specs.declared.stop.StoreStop.{StoreStop}
+use Rattle.script_source.specs.Script.{lines_of}
+use Rattle.shell.specs.Script.{texts_of, AreWithin}
+use Rattle.shell.specs.LineServed.{IsSure}
+use Rattle.shell.specs.Serving.{entries_over}
+use Rattle.shell.specs.ScriptServed.{IsLastPicture, HasEnded, ScriptStops}
+use Rattle.shell.specs.Ending.{status_for, damaged_for, without_store, stopped_with}
+use Rattle.shell.specs.declared.outcomes.Outcome.{Outcome}
+use Rattle.shell.specs.declared.ending.Ending.{Ending}
+
+-- the tables with which a run begins: those of the image, or with --init none on an unborn disk
+abbrev pub Begins : Bool → Image → Tables → Type 0
+Begins false image tables = IsKept image tables
+Begins true image tables = IsUnbornDisk image × (tables ≡ no_tables)
+
+-- The script was served over these tables, and the status tells how that ended.
+pub record ServesScript (first : HostState) (tables : Tables) (outcome : Outcome) (now : HostState) : Type 0 where
+  pub ending : Result Ending Stop
+  pub status : outcome.status ≡ status_for ending
+  pub damaged : outcome.damaged ≡ damaged_for ending
+  pub keeps : Keeps first now
+  pub ended : IsTrue first.is_faithful → HasEnded ending first tables outcome.lines outcome.history (option_to_list outcome.doubt) now
+  pub stops : IfErr ending (λ stop. ScriptStops stop (option_to_list outcome.doubt) first now)
+  pub rests : IsTrue first.is_honest → AllSettled first → OnOk ending (AllSettled now)
+
+-- the disk is unborn still, and nothing was said
+pub record IsUnbegun (said : List ℕ) (p : Picture) : Type 0 where
+  pub unborn : IsUnbornDisk p.image
+  pub said_is : p.said ≡ said
+
+-- What a crash may leave: the tables after some of the lines, and before that with --init an unborn disk.
+abbrev pub MayBeLeft : Bool → Tables → List (List ℕ) → ℕ → List ℕ → Picture → Type 0
+MayBeLeft false tables texts tried said p = IsLastPicture tables texts tried said p
+MayBeLeft true tables texts tried said p = IsUnbegun said p ⊎ IsLastPicture tables texts tried said p
+
+-- Each crash since the first moment leaves the tables after some of these lines, which are all that gave the history and what is in doubt.
+pub record LeavesLines (init : Bool) (first : HostState) (tables : Tables) (outcome : Outcome) (now : HostState) : Type 0 where
+  pub tried : ℕ
+  pub within : AreWithin (lines_of first.script) tried
+  pub all : outcome.history ++ option_to_list outcome.doubt ≡ entries_over 1 (take tried (texts_of first.script)) tables
+  pub leaves : LeavesOnly (MayBeLeft init tables (texts_of first.script) tried first.said) first now
+
+-- a store was there, or was made, and its script was served
+pub record HasStore (init : Bool) (first : HostState) (outcome : Outcome) (now : HostState) : Type 0 where
+  pub tables : Tables
+  pub begins : IsTrue first.is_faithful → Begins init first.files tables
+  pub serves : ServesScript first tables outcome now
+  pub crash : IsTrue first.is_honest → AllSettled first → LeavesLines init first tables outcome now
+
+abbrev pub StoreStops : Bool → StoreStop → HostState → HostState → Type 0
+StoreStops false stop first now = OpenStops stop first now
+StoreStops true stop first now = InitStops stop first now
+
+-- an unborn disk stays so, or has a new store
+abbrev pub IsBegunOrNot : Image → Type 0
+IsBegunOrNot image = IsUnbornDisk image ⊎ IsKept image no_tables
+
+-- What is left before a script is served: all as it was, but for what --init has made of an unborn disk.
+pub record LeavesDisk (init : Bool) (first now : HostState) : Type 0 where
+  pub quiet : IsQuiet first now
+  pub looks : (init ≡ false) → Looks first now
+  pub tried : (init ≡ true) → IsTrue first.is_faithful → IsUnbornDisk first.files → IsBegunOrNot now.files
+  pub leaves : (init ≡ true) → IsTrue first.is_honest → AllSettled first → IsUnbornDisk first.files → LeavesOnly (Shows IsBegunOrNot first.said) first now
+
+-- A store is opened, or made.
+pub record OpensStore (init : Bool) (result : Result StoreValue StoreStop) (old new : HostState) : Type 0 where
+  pub fresh : IfOk result IsFresh
+  pub sure : IfOk result (λ store. IsSure store new)
+  pub begins : IsTrue old.is_faithful → IfOk result (λ store. Begins init old.files store.tables)
+  pub stops : IfErr result (λ stop. StoreStops init stop old new)
+  pub left : LeavesDisk init old new
+  pub rests : IsTrue old.is_honest → AllSettled old → OnOk result (AllSettled new)
+
+-- no store was opened or made, nothing was said, and no line was heard
+pub record HasNoStore (init : Bool) (first : HostState) (outcome : Outcome) (now : HostState) : Type 0 where
+  pub stop : StoreStop
+  pub outcome_is : outcome ≡ without_store stop
+  pub stops : StoreStops init stop first now
+  pub left : LeavesDisk init first now
+
+abbrev pub RunsStore : Bool → HostState → Outcome → HostState → Type 0
+RunsStore init first outcome now = HasStore init first outcome now ⊎ HasNoStore init first outcome now
+
+-- memory was short before anything was begun
+pub record HasNoMemory {H : Type 0} (outcome : Outcome) (old new : H) : Type 0 where
+  pub outcome_is : outcome ≡ stopped_with NoMemory
+  pub same : new ≡ old

@@ -1,0 +1,133 @@
+// A whole run.
+ghost use Rattle.std.specs.Prelude.{◌≡◌, ◌⊎◌, None, [], false, IsTrue, IfOk, IfErr, OnOk, MatchOption, option_to_list};
+ghost use Rattle.script_words.specs.CommandLine.{IsUsage, IsStoreForm};
+ghost use Rattle.script_words.specs.declared.command_line.StoreForm.{StoreForm};
+ghost use Rattle.table_store.specs.StoreValue.{IsFresh};
+ghost use Rattle.shell.specs.Ending.{unbegun};
+ghost use Rattle.shell.specs.Running.{OpensStore, ServesScript, RunsStore, HasNoMemory};
+ghost use Rattle.host_model.specs.Calls.{Keeps};
+ghost use Rattle.host_model.specs.Leaves.{AllSettled};
+ghost use Rattle.shell.specs.LineServed.{IsSure};
+ghost use Rattle.shell.specs.ScriptServed.{HasEnded, LeavesFronts, ScriptStops, RefusesLine};
+
+use crate::ending::{Ending, ended, stopped, unbegun, without_store};
+use crate::outcomes::Outcome;
+use crate::serving::serve_line;
+use host_model::{Host, Stop};
+use row_keys::{Octets, Words};
+use script_source::{Heard, Script};
+use script_words::{WordsStop, read_words, write_no_line};
+use std::alloc::{AllocError, Global};
+use table_store::{StoreStop, TableStore};
+
+/// The status where the words are of no form.
+const USAGE: u8 = 2;
+
+/// The most lines that a script may have.
+const MAX_LINES: u32 = 100_000;
+
+/// The directory that the words name, or none exactly where they are of no form.
+pub fn dir_of(alloc: Global, words: &Words) -> Result<Option<Octets>, AllocError>
+    ensures { IfOk result (λ dir. MatchOption dir (IsUsage words.now) (λ dir. (form : StoreForm) × IsStoreForm words.now form × (dir ≡ form.dir))) }
+{
+    match read_words(alloc, words) {
+        Ok(form) => Ok(Some(form.dir)),
+        Err(WordsStop::Usage) => Ok(None),
+        Err(WordsStop::NoMemory) => Err(AllocError),
+    }
+}
+
+/// Reads the words, opens the store or makes it, and serves the script, over a host that it hands back.
+pub fn run<H: Host>(alloc: Global, words: &Words, mut host: H) -> (Outcome, H)
+    ensures usage { IsUsage words.now → (result.0 ≡ unbegun 2 None) × (result.1 ≡ host) }
+    ensures runs { (form : StoreForm) → IsStoreForm words.now form → RunsStore form.init (H.state host) result.0 (H.state result.1) ⊎ HasNoMemory result.0 host result.1 }
+{
+    let outcome = match read_words(alloc, words) {
+        Ok(form) => run_store(alloc, form.init, &mut host),
+        Err(WordsStop::Usage) => unbegun(alloc, USAGE),
+        Err(WordsStop::NoMemory) => stopped(alloc, Stop::NoMemory),
+    };
+    (outcome, host)
+}
+
+/// Opens the store that is there, or makes a new one.
+fn open_store<H: Host>(alloc: Global, init: bool, host: &mut H) -> Result<TableStore, StoreStop>
+    ensures { OpensStore init result (H.state host.old) (H.state host.new) }
+{
+    if init {
+        TableStore::init(alloc, host)
+    } else {
+        TableStore::open(alloc, host)
+    }
+}
+
+fn run_store<H: Host>(alloc: Global, init: bool, host: &mut H) -> Outcome
+    ensures { RunsStore init (H.state host.old) result (H.state host.new) }
+{
+    match open_store(alloc, init, host) {
+        Ok(store) => run_script(alloc, store, host),
+        Err(stop) => without_store(alloc, stop),
+    }
+}
+
+fn run_script<H: Host>(alloc: Global, mut store: TableStore, host: &mut H) -> Outcome
+    requires fresh { IsFresh store }
+    requires sure { IsSure store (H.state host.old) }
+    ensures serves { ServesScript (H.state host.old) store.tables result (H.state host.new) }
+    ensures crash { IsTrue (H.state host.old).is_honest → AllSettled (H.state host.old) → LeavesFronts (H.state host.old) store.tables result.history (option_to_list result.doubt) (H.state host.new) }
+{
+    let mut lines = 0;
+    let ending = serve(alloc, &mut store, host, &mut lines);
+    let (history, doubt) = store.finish();
+    ended(ending, lines, history, doubt)
+}
+
+/// Serves the script to its end, or to the first line that is too long or one too many.
+fn serve<H: Host>(
+    alloc: Global,
+    store: &mut TableStore,
+    host: &mut H,
+    lines: &mut u32,
+) -> Result<Ending, Stop>
+    requires running { store.old.is_stopped ≡ false }
+    requires doubt { store.old.doubt ≡ [] }
+    requires history { store.old.history ≡ [] }
+    requires sure { IsSure store.old (H.state host.old) }
+    requires lines { lines.old ≡ 0 }
+    ensures keeps { Keeps (H.state host.old) (H.state host.new) }
+    ensures ended { IsTrue (H.state host.old).is_faithful → HasEnded result (H.state host.old) store.old.tables lines.new store.new.history store.new.doubt (H.state host.new) }
+    ensures stops { IfErr result (λ stop. ScriptStops stop store.new.doubt (H.state host.old) (H.state host.new)) }
+    ensures crash { IsTrue (H.state host.old).is_honest → AllSettled (H.state host.old) → LeavesFronts (H.state host.old) store.old.tables store.new.history store.new.doubt (H.state host.new) }
+    ensures rests { IsTrue (H.state host.old).is_honest → AllSettled (H.state host.old) → OnOk result (AllSettled (H.state host.new)) }
+{
+    let mut script = Script::new(alloc)?;
+    for number in 1..MAX_LINES + 1 {
+        match script.next_line(alloc, host)? {
+            Heard::End => return Ok(Ending::ScriptEnd),
+            Heard::TooLong => {
+                *lines = number;
+                return refuse_line(alloc, host, number);
+            }
+            Heard::Line(text) => {
+                *lines = number;
+                serve_line(alloc, store, host, number, &text)?;
+            }
+        }
+    }
+    match script.next_line(alloc, host)? {
+        Heard::End => Ok(Ending::ScriptEnd),
+        _ => {
+            *lines = MAX_LINES + 1;
+            refuse_line(alloc, host, MAX_LINES + 1)
+        }
+    }
+}
+
+/// Says that there is no line of this number.
+fn refuse_line<H: Host>(alloc: Global, host: &mut H, number: u32) -> Result<Ending, Stop>
+    ensures { RefusesLine number result (H.state host.old) (H.state host.new) }
+{
+    let reply = write_no_line(alloc, number)?;
+    host.say(&reply)?;
+    Ok(Ending::NoLine)
+}
