@@ -1,0 +1,9 @@
+pub mod FileMapLemmas
+pub mod ScriptLemmas
+pub mod MomentsLemmas
+pub mod PlanLemmas
+pub mod CallLemmas
+pub mod QuietLemmas
+pub mod MemoryLemmas
+pub mod CrashLemmas
+pub mod StepLemmas

@@ -1,0 +1,49 @@
+-- What is counted.
+use Rattle.std.proofs.Common.{◌≡◌, ◌⊎◌, inl, inr, ⊎_elim, ap, subst, arith, true}
+use Rattle.host_model.specs.Calls.{NoneFalls, Counted}
+use Rattle.host_model.specs.declared.fault.HostFault.{HostFault}
+use Rattle.host_model.specs.declared.fault.HostFault.TheVariants.{Disk, Source, Sink, Memory}
+use Rattle.host_model.proofs.CallsLemmas.{none_falls-then, counted-then}
+use Rattle.memory_host.specs.declared.plan.FaultCounts.{FaultCounts}
+use Rattle.memory_host.specs.declared.plan.Plan.{Plan}
+use Rattle.memory_host.specs.declared.plan.Turn.{Turn}
+use Rattle.memory_host.specs.declared.plan.Turn.TheVariants.{Fails, Stops, Down}
+use Rattle.memory_host.specs.Plan.{Plans, NextFails, OutOfMemory, faults_of, raised}
+
+rose_by : (fault : HostFault) (old new : FaultCounts) → new ≡ raised fault old → Counted fault (faults_of old) (faults_of new)
+rose_by Disk old new is = omega (arith, ap (λ (c : FaultCounts). c.disk) is)
+rose_by Source old new is = omega (arith, ap (λ (c : FaultCounts). c.source) is)
+rose_by Sink old new is = omega (arith, ap (λ (c : FaultCounts). c.sink) is)
+rose_by Memory old new is = omega (arith, ap (λ (c : FaultCounts). c.memory) is)
+
+-- the fault of a call is counted
+pub rose_in_stops : (fault : HostFault) (old new : Plan) → Plans fault Stops old new → Counted fault (faults_of old.faults) (faults_of new.faults)
+rose_in_stops fault old new plans = rose_by fault old.faults new.faults plans.faults
+
+pub rose_in_fails : (fault : HostFault) (old new : Plan) → Plans fault Fails old new → Counted fault (faults_of old.faults) (faults_of new.faults)
+rose_in_fails fault old new plans = rose_by fault old.faults new.faults plans.faults
+
+pub rose_in_down : (fault : HostFault) (old new : Plan) → Plans fault Down old new → Counted fault (faults_of old.faults) (faults_of new.faults)
+rose_in_down fault old new plans = rose_by fault old.faults new.faults plans.faults
+
+pub rose_either : (fault : HostFault) (turn first second : Turn) (old new : Plan) → ((old new : Plan) → Plans fault first old new → Counted fault (faults_of old.faults) (faults_of new.faults)) → ((old new : Plan) → Plans fault second old new → Counted fault (faults_of old.faults) (faults_of new.faults))
+    → (turn ≡ first) ⊎ (turn ≡ second) → Plans fault turn old new → Counted fault (faults_of old.faults) (faults_of new.faults)
+rose_either fault turn first second old new one two is plans = ⊎_elim (λ e. one old new (subst (λ t. Plans fault t old new) e plans)) (λ e. two old new (subst (λ t. Plans fault t old new) e plans)) is
+
+-- the same, where it doesn't matter how it failed
+pub rose_at_all : (fault : HostFault) (old new : Plan) → NextFails fault true old new → Counted fault (faults_of old.faults) (faults_of new.faults)
+rose_at_all fault old new (inl plans) = rose_in_fails fault old new plans
+rose_at_all fault old new (inr (inl plans)) = rose_in_stops fault old new plans
+rose_at_all fault old new (inr (inr plans)) = rose_in_down fault old new plans
+
+pub falls_at_all : (fault : HostFault) (old new : Plan) → NextFails fault true old new → NoneFalls (faults_of old.faults) (faults_of new.faults)
+falls_at_all fault old new (inl plans) = plans.falls
+falls_at_all fault old new (inr (inl plans)) = plans.falls
+falls_at_all fault old new (inr (inr plans)) = plans.falls
+
+-- a want of memory is counted
+pub memory_falls : (old mid new : Plan) → NoneFalls (faults_of old.faults) (faults_of mid.faults) → OutOfMemory mid new → NoneFalls (faults_of old.faults) (faults_of new.faults)
+memory_falls old mid new falls out = none_falls-then falls out.falls
+
+pub memory_rose : (old mid new : Plan) → NoneFalls (faults_of old.faults) (faults_of mid.faults) → OutOfMemory mid new → Counted Memory (faults_of old.faults) (faults_of new.faults)
+memory_rose old mid new falls out = counted-then Memory (faults_of old.faults) (faults_of mid.faults) (faults_of new.faults) falls (rose_by Memory mid.faults new.faults (ap (λ (p : Plan). p.faults) out.is))

@@ -1,0 +1,10 @@
+pub mod Files
+pub mod Plan
+pub mod Past
+pub mod PastLemmas
+pub mod Known
+pub mod Moments
+pub mod Memory
+pub mod Quiet
+pub mod Crash
+pub mod Walk
