@@ -1,0 +1,9 @@
+pub mod ApartLemmas
+pub mod InOrder
+pub mod KeyOrder
+pub mod LawsLemmas
+pub mod PairLemmas
+pub mod PlaceLemmas
+pub mod PointLemmas
+pub mod RangesLemmas
+pub mod StoreLemmas

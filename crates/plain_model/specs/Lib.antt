@@ -1,0 +1,11 @@
+pub mod State
+pub mod Apply
+pub mod Applies
+pub mod History
+pub mod Listed
+pub mod Places
+pub mod Inside
+pub mod Edits
+pub mod Laws
+pub mod Apart
+pub mod Codes
