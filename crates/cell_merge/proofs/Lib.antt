@@ -1,0 +1,6 @@
+pub mod IndexLemmas
+pub mod KeyLemmas
+pub mod LatestLemmas
+pub mod Membership
+pub mod MergedLemmas
+pub mod RisingLemmas
