@@ -64,6 +64,11 @@ no_record (payload ∷ more) file has unborn =
     let split = split_first behind some in
     absurd (unborn split.0 split.1 (has.is ∙ ap (λ l. 1 ∷ l) split.2))
 
+pub unborn_empty : (name : List ℕ) (image : Image) (nodes : Nodes) → HasNodes name image nodes → IsUnborn name image → nodes ≡ map.empty
+unborn_empty name image nodes has unborn =
+    let none = no_record has.records has.there.file has.there.has (λ second rest is. unborn.none (record { second = second; rest = rest; is = has.there.is ∙ ap (λ l. Some l) is })) in
+    subst (λ r. FoldTo r map.empty nodes) none has.folds
+
 stays_shut : (file : List ℕ) → HasRecords file [] → (second : ℕ) (rest : List ℕ) → file ≡ 1 ∷ second ∷ rest → ⊥
 stays_shut file has second rest is =
     let e : has.gate ∷ has.rest ≡ 1 ∷ second ∷ rest = sym has.is ∙ is in

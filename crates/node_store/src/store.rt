@@ -1,5 +1,5 @@
 // The node store.
-ghost use Rattle.std.specs.Prelude.{◌≡◌, ◌⊎◌, List, ℕ, Ok, Err, IfOk, IfErr, IsErrOf, OnOk, IsTrue, MatchBool, MatchOption};
+ghost use Rattle.std.specs.Prelude.{◌≡◌, ◌⊎◌, ◌+◌, List, ℕ, length, Ok, Err, IfOk, IfErr, IsErrOf, OnOk, IsTrue, MatchBool, MatchOption};
 ghost use Rattle.std.specs.FinMap as map;
 ghost use Rattle.std.specs.Option.{option_copied};
 ghost use Rattle.host_model.specs.Calls.{HasCause, Looks};
@@ -9,6 +9,7 @@ ghost use Rattle.journal_core.specs.Journal.{FileCause};
 ghost use Rattle.node_store.specs.declared.changes.NodeStop.{NodeStop};
 ghost use Rattle.node_store.specs.Children.{children_of};
 ghost use Rattle.node_store.specs.Nodes.{multi_applied};
+ghost use Rattle.node_store.specs.Multi.{spelled_multi};
 ghost use Rattle.node_store.specs.Image.{IsNodeFile, IsStored, IsBorn, IsUnborn};
 ghost use Rattle.node_store.specs.Steps.{MayGive, Gives, MayStart, Starts};
 ghost use Rattle.node_store.specs.Answers.{IsDue, IsRefusal, IsEarly, MultiCause, OpenCause, AnswersOrNoMemory};
@@ -29,10 +30,10 @@ const BORN_LENGTH: u64 = 2;
 
 /// The nodes of a cluster in memory, over the journal of multis that makes them lasting.
 ///
-/// Contracts see the name of the nodes, what each path has, and where the journal goes on. Callers use the first two, and
-/// hand on that the files are as this value left them, which `IsStored` says. The paths are a flat map: none needs another
-/// one. Nodes with versions and multis are those of the ZooKeeper under Apache Accumulo 2.1; their file is this project's
-/// own.
+/// Contracts see the name of the nodes, what each path has, and where the journal goes on, which tells whether a multi has
+/// room. Callers hand on that the files are as this value left them, which `IsStored` says. The paths are a flat map: none
+/// needs another one. Nodes with versions and multis are those of the ZooKeeper under Apache Accumulo 2.1; their file is
+/// this project's own.
 #[derive(Debug, Drop)]
 pub struct NodeStore {
     alloc: Global,
@@ -57,7 +58,7 @@ impl NodeStore {
     /// way leaves the nodes' file as it was, or with fewer than two bytes; want of memory leaves the host as it was. Three calls of the host, one of them a sync.
     pub fn create<H: Host>(alloc: Global, host: &mut H, name: &Name) -> Result<NodeStore, Stop>
         ensures alters { Alters (IsNodeFile name.now) (MayStart name.now) (Starts name.now) result (H.state host.old) (H.state host.new) }
-        ensures made { IfOk result (λ store. (store.name ≡ name.now) × (store.nodes ≡ map.empty)) }
+        ensures made { IfOk result (λ store. store ≡ record { name = name.now; nodes = map.empty; end = 0 }) }
         ensures stored { IsTrue (H.state host.new).is_faithful → IfOk result (λ store. IsStored store (H.state host.new).files) }
         ensures untouched { IsErrOf result NoMemory → host.new ≡ host.old }
         ensures stops { IfErr result (λ stop. FileCause stop (H.state host.old) (H.state host.new)) }
@@ -110,6 +111,7 @@ impl NodeStore {
         ensures alters { Alters (IsNodeFile self.old.name) (MayGive ops.now self.old) (Gives ops.now self.old) result (H.state host.old) (H.state host.new) }
         ensures ok { OnOk result (multi_applied ops.now self.old.nodes ≡ Ok self.new.nodes) }
         ensures name { self.new.name ≡ self.old.name }
+        ensures end { OnOk result (self.new.end ≡ self.old.end + 5 + length (spelled_multi ops.now)) }
         ensures stored { IsTrue (H.state host.new).is_faithful → OnOk result (IsStored self.new (H.state host.new).files) }
         ensures cause { IfErr result (λ stop. MultiCause ops.now self.old stop (H.state host.old) (H.state host.new)) }
         ensures due { (stop : NodeStop) → IsDue ops.now self.old stop → AnswersOrNoMemory (Err stop) result }
