@@ -1,11 +1,10 @@
 -- Durable changes, said in other ways.
-use Rattle.std.proofs.Common.{◌≡◌, ℕ, List, Result, Ok, Err, IsTrue, OnOk, refl, sym, ◌∙◌, ap, subst}
+use Rattle.std.proofs.Common.{◌≡◌, ℕ, List, Result, Ok, Err, IsTrue, refl, sym, ap, subst}
 use Rattle.std.proofs.lemmas.Result.{on_ok_weaker}
 use Rattle.host_model.specs.Picture.{Picture, Image, ImageStep, Same, file_at}
 use Rattle.host_model.specs.State.{HostState}
-use Rattle.host_model.specs.Moves.{Moves}
 use Rattle.host_model.specs.Calls.{IsSound}
-use Rattle.host_model.specs.Alters.{Alters, AreSettled}
+use Rattle.host_model.specs.Alters.{Alters}
 use Rattle.host_model.proofs.CallsLemmas.{quiet-refl}
 use Rattle.host_model.proofs.MovesLemmas.{started, weaker}
 

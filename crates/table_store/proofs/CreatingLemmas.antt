@@ -1,6 +1,7 @@
 -- What changes that make a table do to an image.
-use Rattle.std.proofs.Common.{◌≡◌, ◌⊎◌, inl, inr, ⊎_elim, ℕ, ◌+◌, ◌<◌, ◌≤◌, ◌^◌, false, List, [], ◌∷◌, ◌++◌, length, drop, Result, Ok, Err, IsErr, IsTrue, refl, ◌∙◌, ap, subst, arith, length-append}
-use Rattle.std.proofs.lemmas.List.{drop_at, drop_all}
+use Rattle.std.proofs.Common.{◌≡◌, ◌⊎◌, inl, inr, ⊎_elim, ℕ, ◌+◌, ◌<◌, ◌≤◌, ◌^◌, false, List, [], ◌∷◌, ◌++◌, length, take, drop, Option, Some, Result, Ok, Err, IsErr, IsTrue, refl, sym, ◌∙◌, ap, subst, arith, length-append}
+use Rattle.std.proofs.lemmas.List.{drop_at, drop_all, take-append-le}
+use Rattle.std.specs.Prelude.{IfSome}
 use Rattle.host_model.specs.Picture.{Image, file_at}
 use Rattle.host_model.specs.State.{HostState}
 use Rattle.host_model.specs.Calls.{IsSound}
@@ -21,8 +22,8 @@ use Rattle.table_store.specs.Layout.{nodes_name, create_ops}
 use Rattle.table_store.specs.Reading.{IsReading}
 use Rattle.table_store.specs.Kept.{IsKept}
 use Rattle.table_store.specs.StoreValue.{StoreValue, MayCreate, Creates, CreateStops, entry_of}
-use Rattle.table_store.specs.Creating.{CommitStops}
-use Rattle.table_store.specs.declared.operation.Entry.{Entry}
+use Rattle.table_store.specs.Creating.{CommitStops, IsUnnamed}
+use Rattle.plain_model.specs.declared.operation.Entry.{Entry}
 use Rattle.table_store.proofs.TablesLemmas.{reading_created}
 use Rattle.table_store.proofs.AltersMore.{alters_nothing, alters_weaker, alters_failed}
 
@@ -101,6 +102,23 @@ within_after committed entry before after within either = ⊎_elim
     (λ same. omega (arith, within, ap length same))
     (λ more. omega (arith, within, ap length more, length-append before (entry ∷ [])))
     either
+
+-- a commit that stops leaves the committed entries
+pub committed_after : (committed : ℕ) (entry : Entry) (before after : List Entry) → committed ≤ length before → (after ≡ before) ⊎ (after ≡ before ++ entry ∷ []) → take committed after ≡ take committed before
+committed_after committed entry before after within either = ⊎_elim
+    (λ same. ap (take committed) same)
+    (λ more. ap (take committed) more ∙ take-append-le committed before (entry ∷ []) within)
+    either
+
+-- it names no file, and is kept
+pub unnamed_after : (stop : Stop) (kept : Option Stop) (ops : List NodeOp) (store : NodeStoreValue) (entry : Entry) (before after : List Entry) (a b : HostState) → kept ≡ Some stop → CommitStops stop ops store entry before after a b → IfSome kept IsUnnamed
+unnamed_after stop kept ops store entry before after a b is stops = subst (λ (k : Option Stop). IfSome k IsUnnamed) (sym is) (unnamed stop stops)
+  where
+    unnamed : (s : Stop) → CommitStops s ops store entry before after a b → IsUnnamed s
+    unnamed (Host fault) why = tt
+    unnamed (Damaged named) why = why
+    unnamed Full why = tt
+    unnamed NoMemory why = tt
 
 pub create_stops : (stop : Stop) (ops : List NodeOp) (store : NodeStoreValue) (entry : Entry) (before after : List Entry) (a b : HostState) (line : ℕ) (name : List ℕ) (old new : StoreValue) (committed : ℕ) → store ≡ old.nodes → entry ≡ entry_of line name old.tables
     → ops ≡ create_ops (base36 old.tables.next) name (old.tables.next + 1) → length before ≡ committed → new.doubt ≡ drop committed after → CommitStops stop ops store entry before after a b → CreateStops stop line name old new a b

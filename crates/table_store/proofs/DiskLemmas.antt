@@ -1,8 +1,7 @@
 -- What the disk is before there is a store.
-use Rattle.std.proofs.Common.{◌≡◌, ◌≢◌, ◌⊎◌, ⊎_elim, ℕ, ◌<◌, Vec, Bool, true, false, List, Option, Some, None, Result, length, get_or, refl, sym, ◌∙◌, ap, subst}
+use Rattle.std.proofs.Common.{◌≡◌, ◌≢◌, ⊎_elim, ℕ, Vec, Bool, true, false, List, Option, Some, None, Result, get_or, refl, sym, ◌∙◌, subst}
 use Rattle.std.specs.Prelude.{MatchBool, All, Contains}
 use Rattle.std.specs.declared.alloc.Global.{Global}
-use Rattle.std.specs.FinMap as map
 use Rattle.std.proofs.lemmas.List.Elements.{All-contains, Contains-get_or}
 use Rattle.host_model.specs.Picture.{Image, Same, file_at, file_names}
 use Rattle.host_model.specs.State.{HostState}

@@ -1,6 +1,6 @@
 -- The nodes of a new store.
-use Rattle.std.proofs.Common.{◌≡◌, ◌≢◌, ◌⊎◌, inl, inr, ℕ, ◌+◌, ◌<◌, ◌^◌, Bool, true, false, cond, List, [], ◌∷◌, map as mapped, Option, Some, None, Result, Ok, Err, refl, sym, ◌∙◌, ap, subst, arith}
-use Rattle.std.specs.Prelude.{All, Contains, MatchResult, ⊤, codes}
+use Rattle.std.proofs.Common.{◌≡◌, inl, ℕ, List, [], ◌∷◌, map as mapped, Some, None, Result, Ok, refl, sym, ◌∙◌, ap, subst, arith}
+use Rattle.std.specs.Prelude.{Contains, MatchResult, ⊤, codes}
 use Rattle.std.specs.FinMap as map
 use Rattle.std.specs.FinMap.{find, get-from_entries, get-empty}
 use Rattle.std.specs.FinMap.Entries.{is_some-find}
@@ -19,10 +19,9 @@ use Rattle.node_store.specs.declared.changes.NodeOp.{NodeOp}
 use Rattle.node_store.specs.declared.changes.NodeOp.TheVariants.{Create}
 use Rattle.node_store.specs.declared.changes.NodeStop.{NodeStop}
 use Rattle.node_store.specs.declared.changes.NodeStop.TheVariants.{Stop as Stopped}
-use Rattle.table_store.specs.Numbers.{IsDrawable}
-use Rattle.table_store.specs.Tables.{Tables, AreDrawn, no_tables}
-use Rattle.table_store.specs.Layout.{instance_path, instance_value, next_table_path, counter_paths, fixed_paths, table_path, first_ops, IsKnownPath}
-use Rattle.table_store.specs.Reading.{HasValue, HasCounter, IsCounter, IsReading}
+use Rattle.table_store.specs.Tables.{no_tables}
+use Rattle.table_store.specs.Layout.{instance_path, instance_value, next_table_path, counter_paths, fixed_paths, table_path, first_ops}
+use Rattle.table_store.specs.Reading.{HasCounter, IsCounter, IsReading}
 use Rattle.table_store.specs.Appending.{Applies}
 use Rattle.table_store.proofs.ReadingLemmas.{table_not_fixed}
 use Rattle.table_store.proofs.TablesLemmas.{create_applied}
@@ -49,7 +48,7 @@ session_entries = first (codes "/next/session") ∷ name_entries
 abbrev entries : List (List ℕ × Node)
 entries = first (codes "/next/lock") ∷ session_entries
 
-abbrev first_nodes : Nodes
+abbrev pub first_nodes : Nodes
 first_nodes = map.from_entries entries
 
 abbrev counters : List (List ℕ) → List NodeOp

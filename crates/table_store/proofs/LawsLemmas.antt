@@ -1,5 +1,5 @@
 -- The tables of images, and the plain states that tables stand for.
-use Rattle.std.proofs.Common.{◌≡◌, ◌≢◌, ◌⊎◌, inl, inr, ⊎_elim, ℕ, ◌<◌, ◌^◌, ◌&&◌, ◌||◌, nat_eq, Bool, true, false, cond, List, [], ◌∷◌, map as mapped, Option, Some, None, refl, sym, ◌∙◌, ap, subst, arith}
+use Rattle.std.proofs.Common.{◌≡◌, ◌≢◌, ◌⊎◌, inl, inr, ⊎_elim, ℕ, ◌&&◌, ◌||◌, nat_eq, Bool, true, false, cond, List, [], ◌∷◌, map as mapped, Option, Some, None, Ok, Err, refl, sym, ◌∙◌, ap, subst}
 use Rattle.std.specs.Option.{is_some}
 use Rattle.std.specs.List.{list_any}
 use Rattle.std.specs.Ordering.{eq_by_cmp, is_eq, is_lt}
@@ -22,13 +22,15 @@ use Rattle.node_store.specs.PathsTo.{path_cmp}
 use Rattle.node_store.specs.Nodes.{Nodes}
 use Rattle.node_store.proofs.PathMaps.{same_paths}
 use Rattle.node_store.proofs.ImageLemmas.{one_nodes}
-use Rattle.table_store.specs.Plain.{PlainState, has_name, apply}
+use Rattle.plain_model.specs.State.{Table}
+use Rattle.plain_model.specs.Apply.{Outcome, has_name, apply}
+use Rattle.plain_model.specs.declared.stop.PlainStop.TheVariants.{Exists}
 use Rattle.table_store.specs.Numbers.{base36, IsDrawable}
-use Rattle.table_store.specs.Tables.{ByName, Tables, AreDrawn, inverted, plain_of, is_taken, created}
+use Rattle.table_store.specs.Tables.{Tables, AreDrawn, bare, plain_of, is_taken, created}
 use Rattle.table_store.specs.Layout.{nodes_name, next_table_path, table_path, table_value}
 use Rattle.table_store.specs.Reading.{IsReading}
 use Rattle.table_store.specs.Kept.{IsKept}
-use Rattle.table_store.specs.declared.operation.Op.TheVariants.{Create}
+use Rattle.plain_model.specs.declared.operation.Op.TheVariants.{Create}
 use Rattle.table_store.proofs.ValueLemmas.{table_value_injective}
 use Rattle.table_store.proofs.ReadingLemmas.{same_value, same_counter}
 use Rattle.table_store.proofs.TablesLemmas.{own_key, other_key, not_there, free_name, drawn_created}
@@ -62,7 +64,7 @@ one_tables image a b one two = one_reading two.nodes a b (subst (λ n. IsReading
 
 -- ---- entries
 
-abbrev In : {V : Type 0} → List ℕ → V → List (List ℕ × V) → Type 0
+abbrev pub In : {V : Type 0} → List ℕ → V → List (List ℕ × V) → Type 0
 In k v [] = ⊥
 In k v (e ∷ es) = ((e.0 ≡ k) × (e.1 ≡ v)) ⊎ In k v es
 
@@ -78,7 +80,7 @@ less_apart Greater less same = absurd less
 not_Some : {V : Type 0} (v : V) → ◌≡◌ {A = Option V} (Some v) None → ⊥
 not_Some v is = cc
 
-in_find : {V : Type 0} (k : List ℕ) (v : V) (es : List (List ℕ × V)) → find path_cmp k es ≡ Some v → In k v es
+pub in_find : {V : Type 0} (k : List ℕ) (v : V) (es : List (List ℕ × V)) → find path_cmp k es ≡ Some v → In k v es
 in_find k v [] is = absurd (not_Some v (sym is))
 in_find {V} k v (e ∷ es) is = at (λ found. in_find k v es found) (eq_by_cmp path_cmp k e.0) refl is
   where
@@ -86,7 +88,7 @@ in_find {V} k v (e ∷ es) is = at (λ found. in_find k v es found) (eq_by_cmp p
     at later true same found = inl (sym (tells_apart exact_bytes k e.0 same), same_Some _ _ found)
     at later false apart found = inr (later found)
 
-in_found : {V : Type 0} (k : List ℕ) (v : V) (es : List (List ℕ × V)) → In k v es → find path_cmp k es ≡ None → ⊥
+pub in_found : {V : Type 0} (k : List ℕ) (v : V) (es : List (List ℕ × V)) → In k v es → find path_cmp k es ≡ None → ⊥
 in_found k v [] among none = among
 in_found {V} k v (e ∷ es) among none = ⊎_elim
     (λ same. not_Some e.1 (ap (λ b. cond b (Some e.1) (find path_cmp k es)) (sym (subst (λ q. eq_by_cmp path_cmp k q ≡ true) (sym same.0) ((eq_by_cmp_equiv nat_list_cmp_total).refl k))) ∙ none))
@@ -103,7 +105,7 @@ below_in x k v (e ∷ es) below among =
     let both = parts (is_lt (path_cmp x e.0)) (below_all path_cmp x es) below in
     ⊎_elim (λ same. subst (λ q. T (is_lt (path_cmp x q))) same.0 both.0) (λ later. below_in x k v es both.1 later) among
 
-find_in : {V : Type 0} (k : List ℕ) (v : V) (es : List (List ℕ × V)) → T (is_sorted path_cmp es) → In k v es → find path_cmp k es ≡ Some v
+pub find_in : {V : Type 0} (k : List ℕ) (v : V) (es : List (List ℕ × V)) → T (is_sorted path_cmp es) → In k v es → find path_cmp k es ≡ Some v
 find_in k v [] sorted among = absurd among
 find_in {V} k v (e ∷ es) sorted among = ⊎_elim
     (λ same. ap (λ b. cond b (Some e.1) (find path_cmp k es)) (subst (λ q. eq_by_cmp path_cmp k q ≡ true) (sym same.0) ((eq_by_cmp_equiv nat_list_cmp_total).refl k)) ∙ ap (λ x. Some x) same.1)
@@ -119,112 +121,143 @@ find_in {V} k v (e ∷ es) sorted among = ⊎_elim
         absurd (less_apart (path_cmp e.0 e.0) less ((eq_by_cmp_equiv nat_list_cmp_total).refl e.0))
     at later found false apart = ap (λ b. cond b (Some e.1) (find path_cmp k es)) apart ∙ found
 
--- ---- keys for values
+-- ---- the tables of a plain state
 
-abbrev turned : List (List ℕ × List ℕ) → List (List ℕ × List ℕ)
-turned es = mapped (λ e. (e.1, e.0)) es
+-- a name for an id, as an entry of the plain state
+abbrev turned : List (List ℕ × List ℕ) → List (List ℕ × Table)
+turned es = mapped (λ e. (e.1, bare e.0)) es
 
-in_turned : (k v : List ℕ) (es : List (List ℕ × List ℕ)) → In k v es → In v k (turned es)
-in_turned k v [] among = among
-in_turned k v (e ∷ es) among = ⊎_elim (λ same. inl (same.1, same.0)) (λ later. inr (in_turned k v es later)) among
+in_turned : (name id : List ℕ) (es : List (List ℕ × List ℕ)) → In name id es → In id (bare name) (turned es)
+in_turned name id [] among = among
+in_turned name id (e ∷ es) among = ⊎_elim (λ same. inl (same.1, ap (λ n. bare n) same.0)) (λ later. inr (in_turned name id es later)) among
 
-in_back : (k v : List ℕ) (es : List (List ℕ × List ℕ)) → In v k (turned es) → In k v es
-in_back k v [] among = among
-in_back k v (e ∷ es) among = ⊎_elim (λ same. inl (same.1, same.0)) (λ later. inr (in_back k v es later)) among
+in_back : (id : List ℕ) (table : Table) (es : List (List ℕ × List ℕ)) → In id table (turned es) → In table.name id es × (table ≡ bare table.name)
+in_back id table [] among = absurd among
+in_back id table (e ∷ es) among = ⊎_elim
+    (λ same. (inl (ap (λ (t : Table). t.name) same.1, same.0), sym same.1 ∙ ap (λ (t : Table). bare t.name) same.1))
+    (λ later. let found = in_back id table es later in (inr found.0, found.1))
+    among
 
-get_inverted : (names : ByName) (id : List ℕ) → map.get (inverted names) id ≡ find path_cmp id (turned (map.entries names))
-get_inverted names id = get-from_entries nat_list_cmp_total (turned (map.entries names)) id
+module _ (tables : Tables) where
+  abbrev plain : map.FinMap path_cmp Table
+  plain = (plain_of tables).tables
 
-inverted_from : (names : ByName) (name id : List ℕ) → map.get (inverted names) id ≡ Some name → map.get names name ≡ Some id
-inverted_from names name id is =
-    let among = in_back name id (map.entries names) (in_find id name (turned (map.entries names)) (sym (get_inverted names id) ∙ is)) in
-    get-entries names name ∙ find_in name id (map.entries names) (entries_sorted names) among
+  get_plain : (id : List ℕ) → map.get plain id ≡ find path_cmp id (turned (map.entries tables.by_name))
+  get_plain id = get-from_entries nat_list_cmp_total (turned (map.entries tables.by_name)) id
 
-inverted_to : (names : ByName) (name id : List ℕ) → ((other : List ℕ) → map.get names other ≡ Some id → other ≡ name) → map.get names name ≡ Some id → map.get (inverted names) id ≡ Some name
-inverted_to names name id alone is = at (map.get (inverted names) id) refl
-  where
-    at : (o : Option (List ℕ)) → map.get (inverted names) id ≡ o → map.get (inverted names) id ≡ Some name
-    at None none = absurd (in_found id name (turned (map.entries names)) (in_turned name id (map.entries names) (in_find name id (map.entries names) (sym (get-entries names name) ∙ is))) (sym (get_inverted names id) ∙ none))
-    at (Some other) some = some ∙ ap (λ n. Some n) (alone other (inverted_from names other id some))
+  -- a table of the plain state is one of these, without split points and pairs
+  pub plain_from : (id : List ℕ) (table : Table) → map.get plain id ≡ Some table → (map.get tables.by_name table.name ≡ Some id) × (table ≡ bare table.name)
+  plain_from id table is =
+      let among = in_back id table (map.entries tables.by_name) (in_find id table (turned (map.entries tables.by_name)) (sym (get_plain id) ∙ is)) in
+      (get-entries tables.by_name table.name ∙ find_in table.name id (map.entries tables.by_name) (entries_sorted tables.by_name) among.0, among.1)
+
+  module _ (ids : AreDrawn tables) where
+    pub stands : (name id : List ℕ) → map.get tables.by_name name ≡ Some id → map.get plain id ≡ Some (bare name)
+    stands name id is = at (map.get plain id) refl
+      where
+        at : (o : Option Table) → map.get plain id ≡ o → map.get plain id ≡ Some (bare name)
+        at None none = absurd (in_found id (bare name) (turned (map.entries tables.by_name)) (in_turned name id (map.entries tables.by_name) (in_find name id (map.entries tables.by_name) (sym (get-entries tables.by_name name) ∙ is))) (sym (get_plain id) ∙ none))
+        at (Some table) some =
+            let found = plain_from id table some in
+            some ∙ ap (λ t. Some t) (found.1 ∙ ap (λ n. bare n) (ids.differ table.name name id found.0 is))
 
 -- ---- the names of a plain state
 
-any_in : (name : List ℕ) (es : List (List ℕ × List ℕ)) → list_any (λ other. pointwise nat_eq name other) (mapped (λ e. e.1) es) ≡ true → (id : List ℕ) × In id name es
-any_in name [] is = absurd (false≢true is)
-any_in name (e ∷ es) is = at (λ any. any_in name es any) (pointwise nat_eq name e.1) refl is
-  where
-    at : (list_any (λ other. pointwise nat_eq name other) (mapped (λ e. e.1) es) ≡ true → (id : List ℕ) × In id name es) → (b : Bool) → pointwise nat_eq name e.1 ≡ b → (b || list_any (λ other. pointwise nat_eq name other) (mapped (λ e. e.1) es)) ≡ true → (id : List ℕ) × In id name (e ∷ es)
-    at later true same any = (e.0, inl (refl, sym ((bytes_eq-Decides name e.1).0 same)))
-    at later false apart any = let there = later any in (there.0, inr there.1)
+-- one of these tables has the name
+abbrev names_any : List ℕ → List (List ℕ × Table) → Bool
+names_any name es = list_any (λ (table : Table). pointwise nat_eq name table.name) (mapped (λ e. e.1) es)
 
-in_any : (id name : List ℕ) (es : List (List ℕ × List ℕ)) → In id name es → list_any (λ other. pointwise nat_eq name other) (mapped (λ e. e.1) es) ≡ true
-in_any id name [] among = absurd among
-in_any id name (e ∷ es) among = ⊎_elim
-    (λ same. ap (λ b. b || list_any (λ other. pointwise nat_eq name other) (mapped (λ e. e.1) es)) ((bytes_eq-Decides name e.1).1 (sym same.1)))
-    (λ later. at (pointwise nat_eq name e.1) (in_any id name es later))
+any_in : (name : List ℕ) (es : List (List ℕ × Table)) → names_any name es ≡ true → (id : List ℕ) × (table : Table) × In id table es × (table.name ≡ name)
+any_in name [] is = absurd (false≢true is)
+any_in name (e ∷ es) is = at (λ any. any_in name es any) (pointwise nat_eq name e.1.name) refl is
+  where
+    at : (names_any name es ≡ true → (id : List ℕ) × (table : Table) × In id table es × (table.name ≡ name)) → (b : Bool) → pointwise nat_eq name e.1.name ≡ b → (b || names_any name es) ≡ true → (id : List ℕ) × (table : Table) × In id table (e ∷ es) × (table.name ≡ name)
+    at later true same any = (e.0, e.1, inl (refl, refl), sym ((bytes_eq-Decides name e.1.name).0 same))
+    at later false apart any = let there = later any in (there.0, there.1, inr there.2, there.3)
+
+in_any : (id : List ℕ) (table : Table) (es : List (List ℕ × Table)) → In id table es → names_any table.name es ≡ true
+in_any id table [] among = absurd among
+in_any id table (e ∷ es) among = ⊎_elim
+    (λ same. ap (λ b. b || names_any table.name es) ((bytes_eq-Decides table.name e.1.name).1 (ap (λ (t : Table). t.name) (sym same.1))))
+    (λ later. at (pointwise nat_eq table.name e.1.name) (in_any id table es later))
     among
   where
-    at : (b : Bool) → list_any (λ other. pointwise nat_eq name other) (mapped (λ e. e.1) es) ≡ true → (b || list_any (λ other. pointwise nat_eq name other) (mapped (λ e. e.1) es)) ≡ true
+    at : (b : Bool) → names_any table.name es ≡ true → (b || names_any table.name es) ≡ true
     at true any = refl
     at false any = any
 
 module _ (tables : Tables) (ids : AreDrawn tables) where
-  stands : (name id : List ℕ) → map.get tables.by_name name ≡ Some id → map.get (plain_of tables) id ≡ Some name
-  stands name id is = inverted_to tables.by_name name id (λ other found. ids.differ other name id found is) is
+  abbrev listed : List (List ℕ × Table)
+  listed = map.entries (plain_of tables).tables
 
-  has_taken : (name : List ℕ) → is_taken name tables ≡ true → has_name (plain_of tables) name ≡ true
+  has_taken : (name : List ℕ) → is_taken name tables ≡ true → has_name name (plain_of tables) ≡ true
   has_taken name taken = at (map.get tables.by_name name) refl
     where
-      at : (o : Option (List ℕ)) → map.get tables.by_name name ≡ o → has_name (plain_of tables) name ≡ true
+      at : (o : Option (List ℕ)) → map.get tables.by_name name ≡ o → has_name name (plain_of tables) ≡ true
       at None none = absurd (false≢true (sym (ap is_some none) ∙ taken))
-      at (Some id) some = in_any id name (map.entries (plain_of tables)) (in_find id name (map.entries (plain_of tables)) (sym (get-entries (plain_of tables) id) ∙ stands name id some))
+      at (Some id) some = in_any id (bare name) listed (in_find id (bare name) listed (sym (get-entries (plain_of tables).tables id) ∙ stands tables ids name id some))
 
-  has_free : (name : List ℕ) → is_taken name tables ≡ false → has_name (plain_of tables) name ≡ false
-  has_free name free = at (has_name (plain_of tables) name) refl
+  has_free : (name : List ℕ) → is_taken name tables ≡ false → has_name name (plain_of tables) ≡ false
+  has_free name free = at (has_name name (plain_of tables)) refl
     where
-      at : (b : Bool) → has_name (plain_of tables) name ≡ b → has_name (plain_of tables) name ≡ false
+      at : (b : Bool) → has_name name (plain_of tables) ≡ b → has_name name (plain_of tables) ≡ false
       at false is = is
       at true is =
-          let there = any_in name (map.entries (plain_of tables)) is in
-          let found = get-entries (plain_of tables) there.0 ∙ find_in there.0 name (map.entries (plain_of tables)) (entries_sorted (plain_of tables)) there.1 in
-          absurd (not_there tables.by_name name there.0 (inverted_from tables.by_name name there.0 found) (free_name tables name free))
+          let there = any_in name listed is in
+          let found = get-entries (plain_of tables).tables there.0 ∙ find_in there.0 there.1 listed (entries_sorted (plain_of tables).tables) there.2 in
+          let named = ap (λ n. map.get tables.by_name n) (sym there.3) ∙ (plain_from tables there.0 there.1 found).0 in
+          absurd (not_there tables.by_name name there.0 named (free_name tables name free))
 
-pub taken_refused : (id name : List ℕ) (splits : List (List ℕ)) (tables : Tables) → AreDrawn tables → is_taken name tables ≡ true → apply (Create id name splits) (plain_of tables) ≡ None
-taken_refused id name splits tables ids taken = ap (λ b. cond b None (Some (map.insert (plain_of tables) id name))) (has_taken tables ids name taken)
+pub taken_refused : (id name : List ℕ) (splits : List (List ℕ)) (tables : Tables) → AreDrawn tables → is_taken name tables ≡ true → apply (Create id name splits) (plain_of tables) ≡ Err Exists
+taken_refused id name splits tables ids taken = cond_true (has_name name (plain_of tables)) _ _ (has_taken tables ids name taken)
+  where
+    cond_true : (b : Bool) (x y : Outcome) → b ≡ true → cond b x y ≡ x
+    cond_true b x y is = ap (λ b. cond b x y) is
 
 module _ (name : List ℕ) (tables : Tables) (ids : AreDrawn tables) (drawable : IsDrawable tables.next) (free : is_taken name tables ≡ false) where
   after : AreDrawn (created name tables)
   after = drawn_created tables name ids drawable.positive drawable.below free
 
-  there : (one id : List ℕ) → map.get tables.by_name one ≡ Some id → map.get (plain_of (created name tables)) id ≡ Some one
+  abbrev grown : map.FinMap path_cmp Table
+  grown = (plain_of (created name tables)).tables
+
+  abbrev before : map.FinMap path_cmp Table
+  before = (plain_of tables).tables
+
+  there : (one id : List ℕ) → map.get tables.by_name one ≡ Some id → map.get grown id ≡ Some (bare one)
   there one id is =
       let apart : one ≢ name = λ same. not_there tables.by_name one id is (ap (λ n. map.get tables.by_name n) same ∙ free_name tables name free) in
       stands (created name tables) after one id (other_key tables.by_name name (base36 tables.next) one apart ∙ is)
 
-  was : (id one : List ℕ) → id ≢ base36 tables.next → map.get (plain_of (created name tables)) id ≡ Some one → map.get (plain_of tables) id ≡ Some one
-  was id one apart is =
-      let found = inverted_from (created name tables).by_name one id is in
+  was : (id : List ℕ) (table : Table) → id ≢ base36 tables.next → map.get grown id ≡ Some table → map.get before id ≡ Some table
+  was id table apart is =
+      let found = plain_from (created name tables) id table is in
       ⊎_elim
-      (λ same. absurd (apart (same_Some _ _ (sym found ∙ ap (λ n. map.get (created name tables).by_name n) same ∙ own_key tables.by_name name (base36 tables.next)))))
-      (λ other. stands tables ids one id (sym (other_key tables.by_name name (base36 tables.next) one other) ∙ found))
-      (cases_name one name)
+      (λ same. absurd (apart (same_Some _ _ (sym found.0 ∙ ap (λ n. map.get (created name tables).by_name n) same ∙ own_key tables.by_name name (base36 tables.next)))))
+      (λ other. stands tables ids table.name id (sym (other_key tables.by_name name (base36 tables.next) table.name other) ∙ found.0) ∙ ap (λ t. Some t) (sym found.1))
+      (cases_name table.name name)
 
-  elsewhere : (id : List ℕ) → id ≢ base36 tables.next → map.get (plain_of (created name tables)) id ≡ map.get (plain_of tables) id
-  elsewhere id apart = at (map.get (plain_of (created name tables)) id) (map.get (plain_of tables) id) refl refl
+  elsewhere : (id : List ℕ) → id ≢ base36 tables.next → map.get grown id ≡ map.get before id
+  elsewhere id apart = at (map.get grown id) (map.get before id) refl refl
     where
-      at : (p q : Option (List ℕ)) → map.get (plain_of (created name tables)) id ≡ p → map.get (plain_of tables) id ≡ q → map.get (plain_of (created name tables)) id ≡ map.get (plain_of tables) id
-      at (Some one) q is old = is ∙ sym (was id one apart is)
+      at : (p q : Option Table) → map.get grown id ≡ p → map.get before id ≡ q → map.get grown id ≡ map.get before id
+      at (Some table) q is old = is ∙ sym (was id table apart is)
       at None None is old = is ∙ sym old
-      at None (Some one) is old = there one id (inverted_from tables.by_name one id old) ∙ sym old
+      at None (Some table) is old =
+          let found = plain_from tables id table old in
+          there table.name id found.0 ∙ ap (λ t. Some t) (sym found.1) ∙ sym old
 
-  each : (id : List ℕ) → map.get (plain_of (created name tables)) id ≡ map.get (map.insert (plain_of tables) (base36 tables.next) name) id
+  pub each : (id : List ℕ) → map.get grown id ≡ map.get (map.insert before (base36 tables.next) (bare name)) id
   each id = ⊎_elim
-      (λ same. subst (λ i. map.get (plain_of (created name tables)) i ≡ map.get (map.insert (plain_of tables) (base36 tables.next) name) i) (sym same)
-      (stands (created name tables) after name (base36 tables.next) (own_key tables.by_name name (base36 tables.next)) ∙ sym (own_key (plain_of tables) (base36 tables.next) name)))
-      (λ apart. elsewhere id apart ∙ sym (other_key (plain_of tables) (base36 tables.next) name id apart))
+      (λ same. subst (λ i. map.get grown i ≡ map.get (map.insert before (base36 tables.next) (bare name)) i) (sym same)
+      (stands (created name tables) after name (base36 tables.next) (own_key tables.by_name name (base36 tables.next)) ∙ sym (own_key before (base36 tables.next) (bare name))))
+      (λ apart. elsewhere id apart ∙ sym (other_key before (base36 tables.next) (bare name) id apart))
       (cases_name id (base36 tables.next))
 
-pub created_applied : (name : List ℕ) (tables : Tables) → AreDrawn tables → IsDrawable tables.next → is_taken name tables ≡ false → apply (Create (base36 tables.next) name []) (plain_of tables) ≡ Some (plain_of (created name tables))
+pub created_applied : (name : List ℕ) (tables : Tables) → AreDrawn tables → IsDrawable tables.next → is_taken name tables ≡ false → apply (Create (base36 tables.next) name []) (plain_of tables) ≡ Ok (plain_of (created name tables))
 created_applied name tables ids drawable free =
-    ap (λ b. cond b None (Some (map.insert (plain_of tables) (base36 tables.next) name))) (has_free tables ids name free)
-    ∙ ap (λ s. Some s) (sym (same_paths (plain_of (created name tables)) (map.insert (plain_of tables) (base36 tables.next) name) (each name tables ids drawable free)))
+    cond_false (has_name name (plain_of tables)) _ _ (has_free tables ids name free)
+    ∙ ap (λ (m : map.FinMap path_cmp Table). Ok (record { tables = m; staged = map.empty })) (sym (same_paths (plain_of (created name tables)).tables (map.insert (plain_of tables).tables (base36 tables.next) (bare name)) (each name tables ids drawable free)))
+  where
+    cond_false : (b : Bool) (x y : Outcome) → b ≡ false → cond b x y ≡ y
+    cond_false b x y is = ap (λ b. cond b x y) is

@@ -7,4 +7,6 @@ pub mod TablesLemmas
 pub mod DiskLemmas
 pub mod FirstLemmas
 pub mod AltersMore
+pub mod RoomLemmas
 pub mod StoreLemmas
+pub mod PlainLemmas

@@ -1,6 +1,6 @@
 -- The tables that the nodes of a store say.
-use Rattle.std.proofs.Common.{◌≡◌, ◌≢◌, ◌⊎◌, inl, inr, ⊎_elim, ℕ, ◌+◌, ◌<◌, ◌≤◌, ◌^◌, ◌&&◌, ◌||◌, Bool, true, false, cond, List, [], ◌∷◌, ◌++◌, length, map, take, get_or, Option, Some, None, refl, sym, ◌∙◌, ap, subst, arith}
-use Rattle.std.specs.Prelude.{MatchBool, MatchOption, All, Contains, IsSome}
+use Rattle.std.proofs.Common.{◌≡◌, ◌≢◌, inl, inr, ⊎_elim, ℕ, ◌<◌, ◌&&◌, ◌||◌, Bool, true, false, cond, List, [], ◌∷◌, ◌++◌, length, take, get_or, Option, Some, None, refl, sym, ◌∙◌, ap, subst, arith}
+use Rattle.std.specs.Prelude.{MatchOption, All, Contains, IsSome}
 use lib.Dec.{T}
 use Rattle.std.specs.Borrow.{Bor}
 use Rattle.std.specs.FinMap as map
@@ -12,29 +12,27 @@ use Rattle.std.specs.Fmt.{decimal}
 use Rattle.std.specs.List.{list_any, AllByRecursion}
 use Rattle.std.specs.List.Sorted.{IsStrictlySortedBy}
 use Rattle.std.specs.Option.{is_some, is_none, option_copied}
-use Rattle.std.specs.Ordering.{nat_cmp, eq_by_cmp, is_eq, is_lt}
+use Rattle.std.specs.Ordering.{eq_by_cmp, is_eq, is_lt}
 use Rattle.std.specs.declared.cmp.Ordering.{Ordering}
 use Rattle.std.specs.declared.cmp.Ordering.TheVariants.{Less, Equal, Greater}
 use Rattle.std.specs.Cmp.{eq_by_cmp_equiv}
 use Rattle.std.specs.Cmp.Lexicographic.{nat_list_cmp_total, nat_list_eq_equiv}
-use Rattle.std.proofs.lemmas.Bool.Decides.{Decides-eqb}
 use Rattle.std.proofs.lemmas.Option.{same_Some}
 use Rattle.std.proofs.lemmas.Slice.Eq.{bytes_eq-Decides}
-use Rattle.std.proofs.lemmas.List.{take_more, take_all, get_or-take, length-take}
-use Rattle.std.proofs.lemmas.List.Elements.{All-nil, All-cons, All-from_recursion, All-push, All-weaker, All-get_or, All-contains, Contains-append_left, Contains-push, Contains-get_or}
+use Rattle.std.proofs.lemmas.List.{get_or-take, length-take}
+use Rattle.std.proofs.lemmas.List.Elements.{All-nil, All-from_recursion, All-push, All-weaker, All-get_or, All-contains, Contains-append_left, Contains-push, Contains-get_or}
 use Rattle.std.proofs.lemmas.Map.Keys.{Less-from_sorted}
 use Rattle.std.proofs.lemmas.Map.Views.{list_any-from_Contains, Contains-from_any, tells_apart}
 use Rattle.std.proofs.lemmas.Map.Lookups.{exact_bytes}
 use Rattle.std.proofs.lemmas.Fmt.{decimal_injective}
-use Rattle.row_keys.specs.Forms.{IsWordName}
 use Rattle.node_store.specs.PathsTo.{path_cmp, PathsTo}
 use Rattle.node_store.specs.Nodes.{Nodes}
 use Rattle.node_store.specs.declared.changes.Node.{Node}
 use Rattle.host_model.proofs.Images.{cases_name}
-use Rattle.table_store.specs.Numbers.{IsDrawn, IsDrawable}
-use Rattle.table_store.specs.Tables.{ByName, Tables, AreDrawn}
+use Rattle.table_store.specs.Numbers.{IsDrawn}
+use Rattle.table_store.specs.Tables.{ByName, Tables}
 use Rattle.table_store.specs.Layout.{instance_path, instance_value, next_table_path, counter_paths, fixed_paths, table_path, table_value, IsTablePath}
-use Rattle.table_store.specs.Reading.{HasValue, HasCounter, IsCounter, IsReading, HasNoReading, IsTableNode, IsNoTableNode, AddsTable, AddsNode, AddsNone, HasTable, IsReadTable, IsRead, ReadsPaths, ReadsNone}
+use Rattle.table_store.specs.Reading.{HasValue, HasCounter, IsCounter, IsReading, HasNoReading, IsTableNode, AddsRead, AddsNode, AddsNone, HasTable, IsRead, ReadsPaths, ReadsNone}
 use Rattle.table_store.proofs.ValueLemmas.{table_path_injective, table_value_injective}
 
 -- ---- values and counters
@@ -180,7 +178,7 @@ reads_fixed nodes next front path old reads fixed = record {
   have = reads.have;
 }
 
-reads_table : (nodes : Nodes) (next : ℕ) (front : List (List ℕ)) (path value : List ℕ) (old new : ByName) → ReadsPaths nodes next front old → HasValue nodes path value → AddsTable next path value old new
+reads_table : (nodes : Nodes) (next : ℕ) (front : List (List ℕ)) (path value : List ℕ) (old new : ByName) → ReadsPaths nodes next front old → HasValue nodes path value → AddsRead next path value old new
     → ReadsPaths nodes next (front ++ path ∷ []) new
 reads_table nodes next front path value old new reads has adds = record {
   each = All-push (IsRead new) front path (All-weaker (IsRead old) (IsRead new) kept front reads.each) (inr (record { name = adds.name; id = adds.id; path_is = adds.node.path_is; found = own }));

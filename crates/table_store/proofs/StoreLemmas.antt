@@ -1,9 +1,9 @@
 -- How a store is made and opened.
-use Rattle.std.proofs.Common.{◌≡◌, ◌≢◌, ◌⊎◌, inl, inr, ⊎_elim, ℕ, List, Result, Ok, Err, IsTrue, OnOk, refl, sym, ◌∙◌, ap, subst}
-use Rattle.std.specs.Prelude.{IfErr, false}
+use Rattle.std.proofs.Common.{◌≡◌, ◌⊎◌, inl, inr, ⊎_elim, ℕ, List, Result, Ok, Err, IsTrue, refl, sym, ◌∙◌, ap, subst}
+use Rattle.std.specs.Prelude.{IfErr}
 use Rattle.std.specs.FinMap as map
-use Rattle.host_model.specs.Picture.{Picture, Image, Same, file_at}
-use Rattle.host_model.specs.State.{HostState, picture_now}
+use Rattle.host_model.specs.Picture.{Image, Same}
+use Rattle.host_model.specs.State.{HostState}
 use Rattle.host_model.specs.Calls.{IsSound, IsQuiet, Looks}
 use Rattle.host_model.specs.Leaves.{LeavesOnly, AllSettled, Shows}
 use Rattle.host_model.specs.Alters.{Alters}
@@ -21,9 +21,7 @@ use Rattle.table_store.specs.Tables.{ByName, Tables, no_tables}
 use Rattle.table_store.specs.Layout.{nodes_name, first_ops}
 use Rattle.table_store.specs.Reading.{IsReading, HasNoReading}
 use Rattle.table_store.specs.Kept.{IsKept, IsNotKept, IsUnbornDisk}
-use Rattle.table_store.specs.StoreValue.{MayBeBorn, Makes, OpenStops, StoreValue as TableValue}
-use Rattle.table_store.specs.Inside.{view_of, IsSound as IsRight}
-use Rattle.table_store.specs.declared.store.TableStore.TheInside.{Inside}
+use Rattle.table_store.specs.StoreValue.{MayBeBorn, Makes, OpenStops}
 use Rattle.table_store.specs.declared.stop.StoreStop.{StoreStop}
 use Rattle.table_store.specs.declared.stop.StoreStop.TheVariants.{Stopped}
 use Rattle.host_model.specs.declared.fault.Stop.{Stop}
@@ -163,17 +161,6 @@ not_kept_stored store image name stored none = record {
 
 pub not_kept_none : (image : Image) → HasNoNodes nodes_name image → IsNotKept image
 not_kept_none image none = record { none = λ tables kept. none.none kept.nodes kept.has }
-
--- ---- a store that runs
-
-pub reading_of : (inside : Inside) (value : TableValue) → view_of inside ≡ value → IsRight inside → value.is_stopped ≡ false → IsReading value.nodes.nodes value.tables
-reading_of inside value is right = subst (λ (v : TableValue). v.is_stopped ≡ false → IsReading v.nodes.nodes v.tables) is right.reading
-
-pub name_of : (inside : Inside) (value : TableValue) → view_of inside ≡ value → IsRight inside → value.nodes.name ≡ nodes_name
-name_of inside value is right = subst (λ (v : TableValue). v.nodes.name ≡ nodes_name) is right.name
-
-pub kept_running : (inside : Inside) (value : TableValue) (image : Image) → view_of inside ≡ value → IsRight inside → value.is_stopped ≡ false → IsStored value.nodes image → IsKept image value.tables
-kept_running inside value image is right running stored = kept_stored value.nodes value.tables image (name_of inside value is right) stored (reading_of inside value is right running)
 
 -- ---- why a store isn't opened
 

@@ -1,14 +1,14 @@
 -- One table more.
-use Rattle.std.proofs.Common.{◌≡◌, ◌≢◌, ◌⊎◌, inl, inr, ⊎_elim, ℕ, ◌+◌, ◌<◌, ◌≤◌, ◌^◌, nat_lt, Bool, true, false, cond, List, [], ◌∷◌, ◌++◌, map as mapped, Option, Some, None, Result, Ok, Err, refl, sym, ◌∙◌, ap, subst, arith, get_or}
-use Rattle.std.specs.Prelude.{All, Contains, MatchResult, ⊤, codes}
+use Rattle.std.proofs.Common.{◌≡◌, ◌≢◌, inl, inr, ⊎_elim, ℕ, ◌+◌, ◌<◌, ◌^◌, nat_lt, Bool, true, false, cond, List, [], ◌∷◌, Option, Some, None, Result, Ok, Err, refl, sym, ◌∙◌, ap, subst, arith, get_or}
+use Rattle.std.specs.Prelude.{Contains, MatchResult, ⊤}
 use Rattle.std.specs.FinMap as map
-use Rattle.std.specs.FinMap.{get-insert, get-empty}
+use Rattle.std.specs.FinMap.{get-insert}
 use Rattle.std.specs.Fmt.{decimal}
 use Rattle.std.specs.Option.{is_some}
 use Rattle.std.specs.Ordering.{eq_by_cmp}
 use Rattle.std.specs.Cmp.{eq_by_cmp_equiv}
 use Rattle.std.specs.Cmp.Lexicographic.{nat_list_cmp_total}
-use Rattle.std.proofs.lemmas.Bool.{false≢true, ltb-true}
+use Rattle.std.proofs.lemmas.Bool.{false≢true}
 use Rattle.std.proofs.lemmas.Option.{same_Some}
 use Rattle.std.proofs.lemmas.List.Elements.{All-weaker}
 use Rattle.std.proofs.lemmas.Map.Views.{tells_apart}
@@ -17,20 +17,20 @@ use Rattle.host_model.specs.declared.fault.Stop.TheVariants.{Full}
 use Rattle.host_model.proofs.Images.{cases_name}
 use Rattle.row_keys.specs.Forms.{IsWordName}
 use Rattle.node_store.specs.PathsTo.{path_cmp, PathsTo, with_entry}
-use Rattle.node_store.specs.Nodes.{Nodes, raised, turned, and_then, applied, multi_applied}
+use Rattle.node_store.specs.Nodes.{Nodes, turned, and_then, multi_applied}
 use Rattle.node_store.specs.declared.changes.Node.{Node}
 use Rattle.node_store.specs.declared.changes.NodeOp.{NodeOp}
 use Rattle.node_store.specs.declared.changes.NodeOp.TheVariants.{Create, Set}
 use Rattle.node_store.specs.declared.changes.NodeStop.{NodeStop}
 use Rattle.node_store.specs.declared.changes.NodeStop.TheVariants.{Stop as Stopped}
-use Rattle.table_store.specs.Numbers.{base36, value_from, IsDrawn, IsDrawable}
-use Rattle.table_store.specs.Tables.{ByName, Tables, AreDrawn, is_taken, created}
+use Rattle.table_store.specs.Numbers.{base36, value_from, IsDrawn}
+use Rattle.table_store.specs.Tables.{Tables, AreDrawn, is_taken, created}
 use Rattle.table_store.specs.Layout.{instance_path, instance_value, next_table_path, counter_paths, fixed_paths, table_path, table_value, create_ops, IsKnownPath}
 use Rattle.table_store.specs.Reading.{HasValue, HasCounter, IsCounter, IsReading}
 use Rattle.table_store.specs.Appending.{Applies}
 use Rattle.table_store.proofs.Numerals.{value_from-base36, IsUserTableId-base36}
-use Rattle.table_store.proofs.ValueLemmas.{table_path_injective, table_value_injective}
-use Rattle.table_store.proofs.ReadingLemmas.{table_not_fixed, same_value}
+use Rattle.table_store.proofs.ValueLemmas.{table_path_injective}
+use Rattle.table_store.proofs.ReadingLemmas.{table_not_fixed}
 
 -- ---- maps with one entry more
 

@@ -1,5 +1,5 @@
 -- What the private functions that change the nodes ensure.
-use Rattle.std.specs.Prelude.{◌≡◌, ◌⊎◌, ℕ, ◌+◌, ◌<◌, ◌^◌, List, Result, Ok, Err, MatchResult, ⊤}
+use Rattle.std.specs.Prelude.{◌≡◌, ◌⊎◌, List, Result, Err, MatchResult, ⊤}
 use Rattle.host_model.specs.State.{HostState}
 use Rattle.host_model.specs.Calls.{IsOfFiles, Counted}
 use Rattle.host_model.specs.declared.fault.Stop.{Stop}

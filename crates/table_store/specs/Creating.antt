@@ -7,9 +7,9 @@ use Rattle.host_model.specs.declared.fault.Stop.TheVariants.{Host, Damaged, Full
 use Rattle.node_store.specs.declared.changes.NodeOp.{NodeOp}
 use Rattle.node_store.specs.Value.{StoreValue}
 use Rattle.node_store.specs.Answers.{IsFull}
-use Rattle.table_store.specs.declared.operation.Op.TheVariants.{Create}
-use Rattle.table_store.specs.declared.operation.Source.TheVariants.{Line}
-use Rattle.table_store.specs.declared.operation.Entry.{Entry}
+use Rattle.plain_model.specs.declared.operation.Op.TheVariants.{Create}
+use Rattle.plain_model.specs.declared.operation.Source.TheVariants.{Line}
+use Rattle.plain_model.specs.declared.operation.Entry.{Entry}
 
 -- the entry of a `createtable` at this line
 abbrev pub creation : ℕ → List ℕ → List ℕ → Entry
@@ -28,3 +28,10 @@ CommitStops (Host fault) ops store entry before after old new = IsOfFiles fault 
 CommitStops (Damaged named) ops store entry before after old new = ⊥
 CommitStops Full ops store entry before after old new = (after ≡ before) × IsFull ops store
 CommitStops NoMemory ops store entry before after old new = after ≡ before
+
+-- the stop names no file
+abbrev pub IsUnnamed : Stop → Type 0
+IsUnnamed (Host fault) = Unit {0}
+IsUnnamed (Damaged named) = ⊥
+IsUnnamed Full = Unit {0}
+IsUnnamed NoMemory = Unit {0}

@@ -3,7 +3,7 @@ use Rattle.std.specs.Prelude.{◌≡◌, ◌≢◌, ℕ, List, None}
 use Rattle.host_model.specs.Picture.{Image, file_at}
 use Rattle.node_store.specs.Nodes.{Nodes}
 use Rattle.node_store.specs.Image.{HasNodes, IsUnborn}
-use Rattle.table_store.specs.Plain.{PlainState}
+use Rattle.plain_model.specs.State.{PlainState}
 use Rattle.table_store.specs.Tables.{Tables, plain_of}
 use Rattle.table_store.specs.Layout.{nodes_name}
 use Rattle.table_store.specs.Reading.{IsReading}

@@ -1,11 +1,12 @@
 -- What holds of the tables of images, and of the plain states that tables stand for.
-use Rattle.std.specs.Prelude.{◌≡◌, ℕ, true, false, List, [], Some, None}
+use Rattle.std.specs.Prelude.{◌≡◌, ℕ, true, false, List, [], Ok, Err}
 use Rattle.host_model.specs.Picture.{Image}
-use Rattle.table_store.specs.Plain.{apply}
+use Rattle.plain_model.specs.Apply.{apply}
+use Rattle.plain_model.specs.declared.stop.PlainStop.TheVariants.{Exists}
 use Rattle.table_store.specs.Numbers.{base36, IsDrawable}
-use Rattle.table_store.specs.Tables.{Tables, AreDrawn, is_taken, created, plain_of}
+use Rattle.table_store.specs.Tables.{Tables, AreDrawn, is_taken, created, plain_of, table_texts, plain_texts}
 use Rattle.table_store.specs.Kept.{IsKept}
-use Rattle.table_store.specs.declared.operation.Op.TheVariants.{Create}
+use Rattle.plain_model.specs.declared.operation.Op.TheVariants.{Create}
 
 -- an image is kept with these tables or with none
 abbrev pub TablesAreOne : Type 0
@@ -13,8 +14,12 @@ TablesAreOne = (image : Image) (a b : Tables) → IsKept image a → IsKept imag
 
 -- a table of a free name is what its operation makes
 abbrev pub CreatedIsApplied : Type 0
-CreatedIsApplied = (name : List ℕ) (tables : Tables) → AreDrawn tables → IsDrawable tables.next → is_taken name tables ≡ false → apply (Create (base36 tables.next) name []) (plain_of tables) ≡ Some (plain_of (created name tables))
+CreatedIsApplied = (name : List ℕ) (tables : Tables) → AreDrawn tables → IsDrawable tables.next → is_taken name tables ≡ false → apply (Create (base36 tables.next) name []) (plain_of tables) ≡ Ok (plain_of (created name tables))
 
 -- an operation with a taken name is refused
 abbrev pub TakenIsRefused : Type 0
-TakenIsRefused = (id name : List ℕ) (splits : List (List ℕ)) (tables : Tables) → AreDrawn tables → is_taken name tables ≡ true → apply (Create id name splits) (plain_of tables) ≡ None
+TakenIsRefused = (id name : List ℕ) (splits : List (List ℕ)) (tables : Tables) → AreDrawn tables → is_taken name tables ≡ true → apply (Create id name splits) (plain_of tables) ≡ Err Exists
+
+-- the texts of tables are those of the plain state that they stand for
+abbrev pub TextsArePlain : Type 0
+TextsArePlain = (tables : Tables) → AreDrawn tables → plain_texts (plain_of tables) ≡ table_texts tables

@@ -1,4 +1,3 @@
-pub mod Plain
 pub mod Creating
 pub mod Laws
 pub mod Numbers
@@ -6,6 +5,8 @@ pub mod Tables
 pub mod Layout
 pub mod Reading
 pub mod Kept
+pub mod Room
 pub mod StoreValue
+pub mod StoreCode
 pub mod Inside
 pub mod Appending

@@ -1,5 +1,5 @@
 -- What the nodes of a store say.
-use Rattle.std.specs.Prelude.{◌≡◌, ◌⊎◌, ℕ, Bool, true, List, Option, Some, None, All, Contains}
+use Rattle.std.specs.Prelude.{◌≡◌, ◌⊎◌, ℕ, List, Some, None, All, Contains}
 use Rattle.std.specs.FinMap as map
 use Rattle.std.specs.Fmt.{decimal}
 use Rattle.row_keys.specs.Forms.{IsWordName}
@@ -52,7 +52,7 @@ pub record IsNoTableNode (next : ℕ) (path value : List ℕ) : Type 0 where
   pub none : (name id : List ℕ) → IsTableNode next path value name id → ⊥
 
 -- the tables have one more, that of the node
-pub record AddsTable (next : ℕ) (path value : List ℕ) (old new : ByName) : Type 0 where
+pub record AddsRead (next : ℕ) (path value : List ℕ) (old new : ByName) : Type 0 where
   pub name : List ℕ
   pub id : List ℕ
   pub node : IsTableNode next path value name id
@@ -61,7 +61,7 @@ pub record AddsTable (next : ℕ) (path value : List ℕ) (old new : ByName) : T
 
 -- the node is one that each store has, or a table's
 abbrev pub AddsNode : ℕ → List ℕ → List ℕ → ByName → ByName → Type 0
-AddsNode next path value old new = (Contains fixed_paths path × (new ≡ old)) ⊎ AddsTable next path value old new
+AddsNode next path value old new = (Contains fixed_paths path × (new ≡ old)) ⊎ AddsRead next path value old new
 
 -- the node is no such, or its table's name is there
 pub record AddsNone (next : ℕ) (path value : List ℕ) (old : ByName) : Type 0 where

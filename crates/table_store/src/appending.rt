@@ -1,7 +1,8 @@
 // Changes of the nodes.
-ghost use Rattle.std.specs.Prelude.{◌≡◌, Ok, IfErr, OnOk, IsTrue};
+ghost use Rattle.std.specs.Prelude.{◌≡◌, ◌+◌, length, Ok, IfErr, OnOk, IsTrue};
 ghost use Rattle.host_model.specs.Alters.{Alters};
 ghost use Rattle.node_store.specs.Nodes.{multi_applied};
+ghost use Rattle.node_store.specs.Multi.{spelled_multi};
 ghost use Rattle.node_store.specs.Image.{IsNodeFile, IsStored};
 ghost use Rattle.node_store.specs.Steps.{MayGive, Gives};
 ghost use Rattle.node_store.specs.Answers.{IsFull};
@@ -18,6 +19,7 @@ pub fn append<H: Host>(nodes: &mut NodeStore, host: &mut H, ops: &[NodeOp]) -> R
     ensures alters { Alters (IsNodeFile nodes.old.name) (MayGive ops.now nodes.old) (Gives ops.now nodes.old) result (H.state host.old) (H.state host.new) }
     ensures ok { OnOk result (multi_applied ops.now nodes.old.nodes ≡ Ok nodes.new.nodes) }
     ensures name { nodes.new.name ≡ nodes.old.name }
+    ensures end { OnOk result (nodes.new.end ≡ nodes.old.end + 5 + length (spelled_multi ops.now)) }
     ensures stored { IsTrue (H.state host.new).is_faithful → OnOk result (IsStored nodes.new (H.state host.new).files) }
     ensures stops { IfErr result (λ stop. AppendStops ops.now nodes.old stop (H.state host.old) (H.state host.new)) }
     ensures due { IsFull ops.now nodes.old → IsFullOrNoMemory result }

@@ -1,9 +1,10 @@
 // New tables.
-ghost use Rattle.std.specs.Prelude.{◌≡◌, ◌+◌, ◌<◌, ◌^◌, ◌++◌, ◌∷◌, [], true, false, Ok, IfOk, IfErr, OnOk, OnErr, IsTrue};
+ghost use Rattle.std.specs.Prelude.{◌≡◌, ◌+◌, ◌<◌, ◌^◌, ◌++◌, ◌∷◌, [], true, false, length, Some, None, Ok, Err, IfOk, IfErr, OnOk, OnErr, IsTrue};
 ghost use Rattle.std.specs.FinMap as map;
 ghost use Rattle.host_model.specs.Alters.{Alters};
 ghost use Rattle.row_keys.specs.Forms.{IsWordName};
 ghost use Rattle.node_store.specs.Nodes.{multi_applied};
+ghost use Rattle.node_store.specs.Multi.{spelled_multi};
 ghost use Rattle.node_store.specs.Image.{IsNodeFile, IsStored};
 ghost use Rattle.node_store.specs.Steps.{MayGive, Gives};
 ghost use Rattle.node_store.specs.Answers.{IsFull};
@@ -11,7 +12,8 @@ ghost use Rattle.table_store.specs.Numbers.{base36};
 ghost use Rattle.table_store.specs.Tables.{is_taken};
 ghost use Rattle.table_store.specs.Layout.{nodes_name, create_ops};
 ghost use Rattle.table_store.specs.Kept.{IsKept};
-ghost use Rattle.table_store.specs.StoreValue.{MayCreate, Creates, HasCreated, IsCreateFull, CreateStops, IsUnasked};
+ghost use Rattle.table_store.specs.StoreValue.{MayCreate, Creates, HasCreated, CreateStops, IsUnasked};
+ghost use Rattle.table_store.specs.Room.{IsCreateFull};
 ghost use Rattle.table_store.specs.Appending.{Applies, IsFullOrNoMemory};
 ghost use Rattle.table_store.specs.Creating.{creation, DrawStops, CommitStops};
 
@@ -19,11 +21,12 @@ use crate::appending::append;
 use crate::ids::table_id;
 use crate::index::TableIndex;
 use crate::nodes::create_ops;
-use crate::operation::{Entry, Op, Source};
+use crate::stop::{again, keep};
 use crate::store::TableStore;
 use crate::values::NUMBER_END;
 use host_model::{Host, Stop};
 use node_store::{NodeOp, NodeStore};
+use plain_model::{Entry, Op, Source};
 use row_keys::{Rows, TableId, TableName};
 use std::alloc::{AllocError, Global};
 
@@ -92,6 +95,7 @@ fn commit<H: Host>(
     ensures ok { OnOk result (multi_applied ops.now nodes.old.nodes ≡ Ok nodes.new.nodes) }
     ensures entered { OnOk result (entries.new.items ≡ entries.old.items ++ entry ∷ []) }
     ensures name { nodes.new.name ≡ nodes.old.name }
+    ensures end { OnOk result (nodes.new.end ≡ nodes.old.end + 5 + length (spelled_multi ops.now)) }
     ensures stored { IsTrue (H.state host.new).is_faithful → OnOk result (IsStored nodes.new (H.state host.new).files) }
     ensures stops { IfErr result (λ stop. CommitStops stop ops.now nodes.old entry entries.old.items entries.new.items (H.state host.old) (H.state host.new)) }
     ensures due { IsFull ops.now nodes.old → IsFullOrNoMemory result }
@@ -110,41 +114,49 @@ fn commit<H: Host>(
 
 impl TableStore {
     /// Makes a table of this name under the next number, as the operation of the line of this number. False comes
-    /// exactly where a table has the name, and then nothing is done. It answers `Full` where the next number would reach
-    /// 2^63 or the nodes have no room for the changes, `NoMemory`, or a fault of the host. After an error the store has
-    /// stopped, and only a fault of the host leaves the entry in doubt. A crash inside leaves the store with the table or
-    /// without it. Costs one multi of the nodes, and the logarithm of the number of tables. This project's own.
+    /// exactly where a table has the name, and then nothing is done. It answers `Full` exactly where the next number would
+    /// reach 2^63 or the nodes have no room for the changes (or `NoMemory` in its place), `NoMemory`, or a fault of the
+    /// host. After an error the store has stopped: it answers the same one to each later call, and asks the host nothing.
+    /// Only a fault of the host leaves the entry in doubt. A crash inside leaves the store with the table or without it.
+    /// Costs one multi of the nodes, and the logarithm of the number of tables. This project's own.
     pub fn create_table<H: Host>(
         &mut self,
         host: &mut H,
         line: u32,
         name: TableName,
     ) -> Result<bool, Stop>
-        requires running { self.old.is_stopped ≡ false }
-        requires sure { self.old.doubt ≡ [] }
-        requires stored { IsTrue (H.state host.old).is_faithful → IsStored self.old.nodes (H.state host.old).files }
-        ensures taken { is_taken name self.old.tables ≡ true → result ≡ Ok false }
+        requires stored { self.old.stop ≡ None → IsTrue (H.state host.old).is_faithful → IsStored self.old.nodes (H.state host.old).files }
+        ensures dead { (stop : Stop) → self.old.stop ≡ Some stop → (result ≡ Err stop) × (self.new ≡ self.old) × (host.new ≡ host.old) }
+        ensures taken { self.old.stop ≡ None → is_taken name self.old.tables ≡ true → result ≡ Ok false }
         ensures same { is_taken name self.old.tables ≡ true → (self.new ≡ self.old) × (host.new ≡ host.old) }
         ensures made { is_taken name self.old.tables ≡ false → IfOk result (λ made. made ≡ true) }
         ensures created { is_taken name self.old.tables ≡ false → OnOk result (HasCreated line name self.old self.new) }
         ensures stored { IsTrue (H.state host.new).is_faithful → OnOk result (IsStored self.new.nodes (H.state host.new).files) }
         ensures kept { IsTrue (H.state host.new).is_faithful → OnOk result (IsKept (H.state host.new).files self.new.tables) }
         ensures alters { is_taken name self.old.tables ≡ false → Alters (IsNodeFile nodes_name) (MayCreate name self.old.tables) (Creates name self.old.tables) result (H.state host.old) (H.state host.new) }
-        ensures stopped { IfErr result (λ stop. self.new.is_stopped ≡ true) }
+        ensures stopped { IfErr result (λ stop. self.new.stop ≡ Some stop) }
         ensures history { IfErr result (λ stop. self.new.history ≡ self.old.history) }
-        ensures stops { IfErr result (λ stop. CreateStops stop line name self.old self.new (H.state host.old) (H.state host.new)) }
-        ensures due { is_taken name self.old.tables ≡ false → IsCreateFull name self.old → IsFullOrNoMemory result }
+        ensures stops { self.old.stop ≡ None → IfErr result (λ stop. CreateStops stop line name self.old self.new (H.state host.old) (H.state host.new)) }
+        ensures due { self.old.stop ≡ None → is_taken name self.old.tables ≡ false → IsCreateFull name self.old.tables self.old.nodes → IsFullOrNoMemory result }
         ensures untouched { IfErr result (λ stop. IsUnasked stop → host.new ≡ host.old) }
     {
+        if let Some(stop) = &self.stop {
+            return Err(again(stop));
+        }
         if self.by_name.contains(&name) {
             return Ok(false);
         }
-        self.is_stopped = true;
-        let (ops, entry) = draw(self.alloc, &mut self.by_name, self.next, line, name)?;
-        commit(&mut self.nodes, host, &ops, &mut self.entries, entry)?;
-        self.committed = self.entries.len();
-        self.next += 1;
-        self.is_stopped = false;
-        Ok(true)
+        let (ops, entry) = match draw(self.alloc, &mut self.by_name, self.next, line, name) {
+            Ok(drawn) => drawn,
+            Err(stop) => return Err(keep(&mut self.stop, stop)),
+        };
+        match commit(&mut self.nodes, host, &ops, &mut self.entries, entry) {
+            Ok(()) => {
+                self.committed = self.entries.len();
+                self.next += 1;
+                Ok(true)
+            }
+            Err(stop) => Err(keep(&mut self.stop, stop)),
+        }
     }
 }

@@ -3,7 +3,7 @@ ghost use Rattle.std.specs.Prelude.{◌≡◌, IfOk, IfErr, IsTrue, MatchBool, A
 ghost use Rattle.host_model.specs.Calls.{Looks};
 ghost use Rattle.table_store.specs.Layout.{nodes_name};
 ghost use Rattle.table_store.specs.Kept.{IsUnbornDisk};
-ghost use Rattle.table_store.specs.StoreValue.{LookStops};
+ghost use Rattle.table_store.specs.StoreValue.{MakeStops};
 
 use host_model::{Host, Name, Stop};
 use node_store::is_born;
@@ -14,7 +14,7 @@ pub fn is_unborn_disk<H: Host>(alloc: Global, host: &mut H, name: &Name) -> Resu
     requires { name.now ≡ nodes_name }
     ensures looks { Looks (H.state host.old) (H.state host.new) }
     ensures unborn { IsTrue (H.state host.old).is_faithful → IfOk result (λ unborn. MatchBool unborn (IsUnbornDisk (H.state host.old).files) (IsUnbornDisk (H.state host.old).files → ⊥)) }
-    ensures stops { IfErr result (λ stop. LookStops stop (H.state host.old) (H.state host.new)) }
+    ensures stops { IfErr result (λ stop. MakeStops stop (H.state host.old) (H.state host.new)) }
 {
     if is_born(host, name)? {
         return Ok(false);

@@ -8,13 +8,11 @@ mod ids;
 mod index;
 mod laws;
 mod nodes;
-mod operation;
 mod reading;
 mod stop;
 mod store;
 mod values;
 
-pub use laws::{created_is_applied, tables_are_one};
-pub use operation::{Entries, Entry, Op, Source};
+pub use laws::{created_is_applied, tables_are_one, texts_are_plain};
 pub use stop::StoreStop;
 pub use store::TableStore;

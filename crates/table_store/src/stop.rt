@@ -1,6 +1,7 @@
-// Why there is no store.
-ghost use Rattle.std.specs.Prelude.{◌≡◌};
+// Why there is no store, and what a store that has stopped answers.
+ghost use Rattle.std.specs.Prelude.{◌≡◌, Some};
 ghost use Rattle.host_model.specs.declared.fault.Stop.TheVariants.{Host, NoMemory};
+ghost use Rattle.table_store.specs.Creating.{IsUnnamed};
 ghost use Rattle.table_store.specs.declared.stop.StoreStop.TheVariants.{Stopped};
 
 use host_model::{HostFault, Stop};
@@ -39,4 +40,27 @@ impl From<AllocError> for StoreStop {
     fn from(_: AllocError) -> Self {
         StoreStop::Stopped(Stop::NoMemory)
     }
+}
+
+/// The same stop once more, where it names no file. Takes no memory.
+pub fn again(stop: &Stop) -> Stop
+    requires { IsUnnamed stop.now }
+    ensures { result ≡ stop.now }
+{
+    match stop {
+        Stop::Host(fault) => Stop::Host(*fault),
+        Stop::Full => Stop::Full,
+        Stop::NoMemory => Stop::NoMemory,
+        Stop::Damaged(_) => unreachable!(),
+    }
+}
+
+/// Keeps a stop that names no file, so that it can be answered again. Takes no memory.
+pub fn keep(kept: &mut Option<Stop>, stop: Stop) -> Stop
+    requires { IsUnnamed stop }
+    ensures kept { kept.new ≡ Some stop }
+    ensures same { result ≡ stop }
+{
+    *kept = Some(again(&stop));
+    stop
 }

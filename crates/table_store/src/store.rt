@@ -1,26 +1,26 @@
 // The store of tables.
-ghost use Rattle.std.specs.Prelude.{◌≡◌, ◌⊎◌, [], true, false, Ok, IfOk, IfErr, OnOk, IsErrOf, IsTrue, MatchBool};
+ghost use Rattle.std.specs.Prelude.{◌≡◌, ◌⊎◌, [], None, Ok, IfOk, IfErr, OnOk, IsErrOf, IsTrue, MatchBool};
 ghost use Rattle.std.specs.Option.{option_to_list};
 ghost use Rattle.host_model.specs.Calls.{Looks};
 ghost use Rattle.host_model.specs.Alters.{Alters};
 ghost use Rattle.node_store.specs.Image.{IsNodeFile, IsStored, IsBorn};
-ghost use Rattle.table_store.specs.Tables.{no_tables, is_taken, table_texts};
+ghost use Rattle.table_store.specs.Tables.{no_tables, table_texts};
 ghost use Rattle.table_store.specs.Layout.{nodes_name};
 ghost use Rattle.table_store.specs.Reading.{IsReading};
 ghost use Rattle.table_store.specs.Kept.{IsKept, IsUnbornDisk};
-ghost use Rattle.table_store.specs.StoreValue.{IsFresh, Makes, MakeStops, InitStops, OpenStops, MayCreate, Creates, HasCreated, IsCreateFull, CreateStops, IsUnasked};
-ghost use Rattle.table_store.specs.Appending.{IsFullOrNoMemory};
+ghost use Rattle.table_store.specs.StoreValue.{IsFresh, Makes, MakeStops, InitStops, OpenStops, station_of};
+ghost use Rattle.table_store.specs.Room.{IsNewStation};
 ghost use Rattle.table_store.specs.declared.stop.StoreStop.TheVariants.{NotBlank};
 
 use crate::appending::append;
 use crate::disk::is_unborn_disk;
 use crate::index::TableIndex;
 use crate::nodes::{first_ops, nodes_name};
-use crate::operation::{Entries, Entry};
 use crate::reading::read_tables;
 use crate::stop::StoreStop;
 use host_model::{Host, Name, Stop};
 use node_store::{NodeStore, is_born};
+use plain_model::{Entries, Entry};
 use row_keys::{ListOf, TableName, Texts};
 use std::alloc::{AllocError, Global};
 use std::marker::Model;
@@ -35,11 +35,13 @@ pub struct TableStore {
     /// The committed entries, and then the one that is offered.
     pub(crate) entries: Vec<Entry>,
     pub(crate) committed: usize,
-    pub(crate) is_stopped: bool,
+    /// What it has answered, and answers from then on. It never names a file, so that answering it again takes no memory.
+    pub(crate) stop: Option<Stop>,
 }
 
 impl Model for TableStore {
-    ghost use Rattle.table_store.specs.StoreValue.{StoreValue, store_code};
+    ghost use Rattle.table_store.specs.StoreValue.{StoreValue};
+    ghost use Rattle.table_store.specs.StoreCode.{store_code};
 
     ghost Value = { StoreValue };
 
@@ -56,7 +58,7 @@ impl Model for TableStore {
 fn over(alloc: Global, nodes: NodeStore, by_name: TableIndex, next: u64) -> TableStore
     requires name { nodes.name ≡ nodes_name }
     requires reading { IsReading nodes.nodes (record { by_name = by_name; next = next }) }
-    ensures { result ≡ record { nodes = nodes; tables = record { by_name = by_name; next = next }; history = []; doubt = []; is_stopped = false } }
+    ensures { result ≡ record { nodes = nodes; tables = record { by_name = by_name; next = next }; history = []; doubt = []; stop = None } }
 {
     TableStore {
         alloc,
@@ -65,7 +67,7 @@ fn over(alloc: Global, nodes: NodeStore, by_name: TableIndex, next: u64) -> Tabl
         next,
         entries: Vec::new(alloc),
         committed: 0,
-        is_stopped: false,
+        stop: None,
     }
 }
 
@@ -73,7 +75,7 @@ fn over(alloc: Global, nodes: NodeStore, by_name: TableIndex, next: u64) -> Tabl
 fn make<H: Host>(alloc: Global, host: &mut H, name: &Name) -> Result<TableStore, Stop>
     requires { name.now ≡ nodes_name }
     ensures makes { Makes result (H.state host.old) (H.state host.new) }
-    ensures made { IfOk result (λ store. IsFresh store × (store.tables ≡ no_tables)) }
+    ensures made { IfOk result (λ store. IsFresh store × IsNewStation (station_of store)) }
     ensures stored { IsTrue (H.state host.new).is_faithful → IfOk result (λ store. IsStored store.nodes (H.state host.new).files) }
     ensures kept { IsTrue (H.state host.new).is_faithful → OnOk result (IsKept (H.state host.new).files no_tables) }
     ensures stops { IfErr result (λ stop. MakeStops stop (H.state host.old) (H.state host.new)) }
@@ -85,10 +87,15 @@ fn make<H: Host>(alloc: Global, host: &mut H, name: &Name) -> Result<TableStore,
 }
 
 impl TableStore {
-    /// Makes a new store on a disk that is blank or unborn.
+    /// Makes a new store on an unborn disk, with no tables and with the nodes of a new store.
+    ///
+    /// `NotBlank` comes exactly where the disk isn't unborn, and `NotInit` never. Each stop is a fault of the disk or the
+    /// host's memory, which is counted, or want of memory: the first changes always have room. A stop or a crash inside
+    /// leaves the disk unborn, or the new store there. Costs a look at all names of files, one creation and one multi. This
+    /// project's own.
     pub fn init<H: Host>(alloc: Global, host: &mut H) -> Result<TableStore, StoreStop>
         ensures makes { Makes result (H.state host.old) (H.state host.new) }
-        ensures made { IfOk result (λ store. IsFresh store × (store.tables ≡ no_tables)) }
+        ensures made { IfOk result (λ store. IsFresh store × IsNewStation (station_of store)) }
         ensures stored { IsTrue (H.state host.new).is_faithful → IfOk result (λ store. IsStored store.nodes (H.state host.new).files) }
         ensures kept { IsTrue (H.state host.new).is_faithful → OnOk result (IsKept (H.state host.new).files no_tables) }
         ensures was_unborn { IsTrue (H.state host.old).is_faithful → OnOk result (IsUnbornDisk (H.state host.old).files) }
@@ -103,9 +110,14 @@ impl TableStore {
     }
 
     /// Opens the store that is there. It writes nothing.
+    ///
+    /// `NotInit` comes exactly where the file of the nodes was never begun, and `NotBlank` never. `Damaged` names that file,
+    /// where it was begun and the disk is kept with no tables of any kind. Each other stop is a fault of the disk or the
+    /// host's memory, which is counted, or want of memory. Time and memory go with the size of the file. This project's own.
     pub fn open<H: Host>(alloc: Global, host: &mut H) -> Result<TableStore, StoreStop>
         ensures looks { Looks (H.state host.old) (H.state host.new) }
         ensures fresh { IfOk result IsFresh }
+        ensures name { IfOk result (λ store. store.nodes.name ≡ nodes_name) }
         ensures stored { IsTrue (H.state host.old).is_faithful → IfOk result (λ store. IsStored store.nodes (H.state host.old).files) }
         ensures kept { IsTrue (H.state host.old).is_faithful → IfOk result (λ store. IsKept (H.state host.old).files store.tables) }
         ensures born { IsTrue (H.state host.old).is_faithful → OnOk result (IsBorn nodes_name (H.state host.old).files) }

@@ -1,6 +1,5 @@
-use Rattle.std.proofs.Common.{◌∙◌, subst, arith, length, sym, ap, not, All}
+use Rattle.std.proofs.Common.{◌∙◌, subst, arith, ap, not, All}
 use Rattle.std.proofs.lemmas.List.{take_all}
-use Rattle.table_store.specs.Layout.{counter_paths}
 use Rattle.table_store.specs.Reading.{IsCounter}
 use Rattle.table_store.proofs.ReadingLemmas.{no_counter}
 use Rattle.table_store.proofs.reading.has_counters.Goals as goal

@@ -1,4 +1,4 @@
-use Rattle.std.proofs.Common.{◌∙◌, ◌++◌, ◌∷◌, [], length, take, sym, ap, subst, arith}
+use Rattle.std.proofs.Common.{◌∙◌, ◌++◌, ◌∷◌, [], take, sym, ap, subst}
 use Rattle.std.proofs.lemmas.List.{take_more}
 use Rattle.table_store.specs.Reading.{HasValue, AddsNode, AddsNone, ReadsPaths}
 use Rattle.table_store.proofs.ReadingLemmas.{reads_nothing, node_there, node_has, reads_more, reads_none, path_new}

@@ -1,6 +1,4 @@
 use Rattle.std.proofs.Common.{◌≡◌, ◌++◌}
-use Rattle.std.specs.Prelude.{map}
-use Rattle.std.specs.Map.Iter.{deref_pair}
 use Rattle.table_store.specs.Tables.{texts_of}
 use Rattle.table_store.proofs.index.TableIndex.texts.Given as goal
 
