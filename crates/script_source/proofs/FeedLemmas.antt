@@ -1,7 +1,8 @@
 -- Where line feeds stand, and where none does.
-use Rattle.std.proofs.Common.{◌≡◌, ◌≢◌, ℕ, suc, Bool, true, false, slice_range, ◌+◌, ◌-◌, ◌<◌, ◌≤◌, List, [], ◌∷◌, ◌++◌, length, take, drop, get_or, sym, ◌∙◌, ap, subst, arith, add-one, drop-cons, length-take, take-append-drop, append_assoc}
+use Rattle.std.proofs.Common.{◌≡◌, ◌≢◌, ℕ, suc, Bool, true, false, slice_range, ◌+◌, ◌-◌, ◌<◌, ◌≤◌, List, [], ◌∷◌, ◌++◌, length, take, drop, get_or, sym, ◌∙◌, ap, subst, arith, add-one, drop-cons, length-take, take-append-drop, append_assoc, refl}
 use Rattle.std.proofs.lemmas.List.{get_or-take, take_all, drop-take, drop-drop}
-use Rattle.std.proofs.lemmas.List.Elements.{All-append, All-nil, All-from_get_or}
+use Rattle.std.proofs.lemmas.List.Elements.{All-append, All-contains, All-nil, All-from_get_or, at_from_Contains}
+use Rattle.std.specs.Prelude.{Contains}
 use Rattle.std.proofs.lemmas.Bool.Decides.{nat_tests}
 use Rattle.memchr.specs.Find.{Nowhere, NoneBefore, Passes, is_byte}
 use Rattle.script_source.specs.Feeds.{HasNoFeed, MovesLine}
@@ -67,3 +68,19 @@ moved_unended pending line rest longer script moves =
 pub moved_front : (is_ended : Bool) (pending line rest longer script : List ℕ) → MovesLine is_ended pending line rest longer → (more : List ℕ) × (line ++ (pending ++ script) ≡ longer ++ more)
 moved_front true pending line rest longer script moves = (10 ∷ (rest ++ script), moved_ended pending line rest longer script moves)
 moved_front false pending line rest longer script moves = (rest ++ script, moved_unended pending line rest longer script moves)
+
+-- ---- where a feed is held
+
+pub some_from_feed : (bytes : List ℕ) → Contains bytes 10 → 0 < length bytes
+some_from_feed bytes has =
+    let at = at_from_Contains bytes 10 has in
+    omega (arith, at.1)
+
+pub feed_against_none : (bytes : List ℕ) → HasNoFeed bytes → Contains bytes 10 → ⊥
+feed_against_none bytes none has = All-contains (λ byte. byte ≢ 10) bytes 10 none.each has refl
+
+-- what is held stays so, and with it the host
+pub still_held : {H : Type 0} (first held more : List ℕ) (a b c : H) → Contains first 10 → (held ≡ first) × (b ≡ a) → (0 < length held → (more ≡ held) × (c ≡ b)) → (more ≡ first) × (c ≡ a)
+still_held first held more a b c has so_far fills =
+    let filled = fills (subst (λ (l : List ℕ). 0 < length l) (sym so_far.0) (some_from_feed first has)) in
+    (filled.0 ∙ so_far.0, filled.1 ∙ so_far.1)

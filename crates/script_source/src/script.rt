@@ -1,5 +1,5 @@
 // The script, heard in pieces and taken line by line.
-ghost use Rattle.std.specs.Prelude.{◌≡◌, ◌++◌, [], IfOk, IfErr, IsTrue};
+ghost use Rattle.std.specs.Prelude.{◌≡◌, ◌<◌, ◌++◌, [], length, Contains, IfOk, IfErr, IsTrue};
 ghost use Rattle.std.specs.Str.Lines.{strip_carriage_return};
 ghost use Rattle.host_model.specs.Calls.{IsOfSource, Counted};
 ghost use Rattle.script_source.specs.Hearing.{Listens, Takes, IsShort, HearingStops};
@@ -75,6 +75,9 @@ impl Script {
             Takes (self.old ++ (H.state host.old).script) heard
             (self.new ++ (H.state host.new).script)) }
         ensures short { IfOk result IsShort }
+
+        // a line whose end is held asks nothing of the host
+        ensures held { Contains self.old 10 → host.new ≡ host.old }
         ensures stops { IfErr result (λ stop.
             HearingStops stop (H.state host.old) (H.state host.new)) }
     {
@@ -95,6 +98,7 @@ impl Script {
     /// Hears a piece where none is held, and says whether bytes are held then.
     fn fill<H: Host>(&mut self, host: &mut H) -> Result<bool, HostFault>
         ensures listens { Listens (H.state host.old) (H.state host.new) }
+        ensures held { 0 < length self.old → (self.new ≡ self.old) × (host.new ≡ host.old) }
         ensures fills { IfOk result
             (Fills self.old (H.state host.old) self.new (H.state host.new)) }
         ensures cause { IfErr result (λ fault. IsOfSource fault

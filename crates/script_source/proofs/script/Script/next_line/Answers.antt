@@ -1,11 +1,11 @@
-use Rattle.std.proofs.Common.{◌≡◌, ◌++◌, ℕ, Bool, true, false, List, [], IsTrue, sym, ◌∙◌, ap, subst, arith}
+use Rattle.std.proofs.Common.{◌≡◌, ◌++◌, ℕ, Bool, true, false, List, [], IsTrue, sym, ◌∙◌, ap, subst, arith, refl}
 use Rattle.std.proofs.lemmas.List.{append-nil}
 use Rattle.host_model.specs.State.{HostState}
 use Rattle.host_model.proofs.CallsLemmas.{still_faithful}
 use Rattle.script_source.specs.Hearing.{Listens}
 use Rattle.script_source.specs.Feeds.{HasNoFeed, MovesLine, Fills}
 use Rattle.script_source.proofs.HearingLemmas.{listens-refl, listens-then}
-use Rattle.script_source.proofs.FeedLemmas.{no_feed-nil, no_feed_longer, moved_ended, moved_unended, moved_front}
+use Rattle.script_source.proofs.FeedLemmas.{no_feed-nil, no_feed_longer, moved_ended, moved_unended, moved_front, feed_against_none, still_held}
 use Rattle.script_source.proofs.LinesLemmas.{meets_long_line, takes_ended, takes_last}
 use Rattle.script_source.proofs.script.Script.next_line.Goals as goal
 
@@ -20,16 +20,26 @@ loop-line-init g c = record {
   none = subst (λ (l : List ℕ). HasNoFeed l) (sym c.new-line.ensures.items) no_feed-nil;
   listens = listens-refl (g.H.Host.state c.args.host.now);
   left = λ f. ap (λ (l : List ℕ). l ++ (c.args.self.now ++ (g.H.Host.state c.args.host.now).script)) c.new-line.ensures.items;
+  held = λ has. (refl, refl);
 }
 
 pub returns-in_err-fill-clause-listens : goal.returns-in_err-fill-clause-listens
 returns-in_err-fill-clause-listens g c = listens-then c.loop-line.invariant.listens c.fill.ensures.listens
 
+pub returns-in_err-fill-clause-held : goal.returns-in_err-fill-clause-held
+returns-in_err-fill-clause-held g c has = (still_held _ _ _ _ _ _ has (c.loop-line.invariant.held has) c.fill.ensures.held).1
+
 pub returns-in_err-is_ended-clause-listens : goal.returns-in_err-is_ended-clause-listens
 returns-in_err-is_ended-clause-listens g c = listens-then c.loop-line.invariant.listens c.fill.ensures.listens
 
+pub returns-in_err-is_ended-clause-held : goal.returns-in_err-is_ended-clause-held
+returns-in_err-is_ended-clause-held g c has = (still_held _ _ _ _ _ _ has (c.loop-line.invariant.held has) c.fill.ensures.held).1
+
 pub returns-then-len-gt-MAX_LINE-clause-listens : goal.returns-then-len-gt-MAX_LINE-clause-listens
 returns-then-len-gt-MAX_LINE-clause-listens g c = listens-then c.loop-line.invariant.listens c.fill.ensures.listens
+
+pub returns-then-len-gt-MAX_LINE-clause-held : goal.returns-then-len-gt-MAX_LINE-clause-held
+returns-then-len-gt-MAX_LINE-clause-held g c has = (still_held _ _ _ _ _ _ has (c.loop-line.invariant.held has) c.fill.ensures.held).1
 
 pub returns-then-len-gt-MAX_LINE-clause-takes : goal.returns-then-len-gt-MAX_LINE-clause-takes
 returns-then-len-gt-MAX_LINE-clause-takes g c = λ f.
@@ -42,6 +52,9 @@ returns-then-len-gt-MAX_LINE-clause-takes g c = λ f.
 
 pub returns-then-is_ended-clause-listens : goal.returns-then-is_ended-clause-listens
 returns-then-is_ended-clause-listens g c = listens-then c.loop-line.invariant.listens c.fill.ensures.listens
+
+pub returns-then-is_ended-clause-held : goal.returns-then-is_ended-clause-held
+returns-then-is_ended-clause-held g c has = (still_held _ _ _ _ _ _ has (c.loop-line.invariant.held has) c.fill.ensures.held).1
 
 pub returns-then-is_ended-clause-takes : goal.returns-then-is_ended-clause-takes
 returns-then-is_ended-clause-takes g c = λ f.
@@ -61,11 +74,15 @@ loop-line-preserved g c =
       short = omega arith;
       none = no_feed_longer _ _ _ _ longer c.in_ok-is_ended.ensures c.loop-line.invariant.none;
       listens = listens-then c.loop-line.invariant.listens c.fill.ensures.listens;
+      held = λ has. absurd (feed_against_none _ (subst (λ (l : List ℕ). HasNoFeed l) (still_held _ _ _ _ _ _ has (c.loop-line.invariant.held has) c.fill.ensures.held).0 moves.0) has);
       left = λ f. sym (moved_unended _ _ _ longer now.script moves) ∙ left_of _ _ c.loop-line.invariant.listens c.in_ok-fill.ensures.fills c.loop-line.invariant.left f;
     }
 
 pub returns-clause-listens : goal.returns-clause-listens
 returns-clause-listens g c = listens-then c.loop-line.invariant.listens c.fill.ensures.listens
+
+pub returns-clause-held : goal.returns-clause-held
+returns-clause-held g c has = (still_held _ _ _ _ _ _ has (c.loop-line.invariant.held has) c.fill.ensures.held).1
 
 -- nothing is left behind a last line
 ended : {b c : HostState} {held more : List ℕ} {is_some : Bool} → is_some ≡ false → Fills held b more c is_some → IsTrue b.is_faithful → more ++ c.script ≡ []

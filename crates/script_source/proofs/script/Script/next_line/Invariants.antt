@@ -1,4 +1,5 @@
 use Rattle.std.proofs.Common.{◌≡◌, ◌++◌, ◌-◌, ◌≤◌, length, IsTrue, vec_len}
+use Rattle.std.specs.Prelude.{Contains}
 use Rattle.script_source.specs.Hearing.{Listens}
 use Rattle.script_source.specs.Feeds.{HasNoFeed}
 use Rattle.script_source.proofs.script.Script.next_line.Given as goal
@@ -9,6 +10,7 @@ invariant-loop-line g l = record {
   none : HasNoFeed l.line.items;
   listens : Listens (g.H.Host.state l.fn.host) (g.H.Host.state l.host);
   left : IsTrue (g.H.Host.state l.fn.host).is_faithful → l.line.items ++ (l.self ++ (g.H.Host.state l.host).script) ≡ l.fn.self ++ (g.H.Host.state l.fn.host).script;
+  held : Contains l.fn.self 10 → (l.self ≡ l.fn.self) × (l.host ≡ l.fn.host);
 }
 
 abbrev pub decreases-loop-line : goal.decreases-loop-line
