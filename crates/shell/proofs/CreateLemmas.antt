@@ -1,30 +1,29 @@
 -- What a `createtable` does, from what the store of tables says of it.
-use Rattle.std.proofs.Common.{◌≡◌, ◌⊎◌, inl, inr, ⊎_elim, ℕ, Bool, true, false, if◌then◌else◌, List, [], ◌∷◌, ◌++◌, Option, Some, None, Result, Ok, Err, IsTrue, refl, sym, ◌∙◌, ap, subst}
-use Rattle.host_model.specs.Picture.{Picture, Image}
+use Rattle.std.proofs.Common.{◌≡◌, ◌⊎◌, inl, inr, ⊎_elim, ℕ, Bool, false, if◌then◌else◌, List, [], ◌∷◌, ◌++◌, Some, Result, Ok, Err, IsTrue, MatchBool, refl, sym, ◌∙◌, ap, subst}
+use Rattle.host_model.specs.Picture.{Image}
 use Rattle.host_model.specs.State.{HostState}
-use Rattle.host_model.specs.Calls.{IsSound, IsOfFiles, Counted}
+use Rattle.host_model.specs.Calls.{IsSound, IsOfFiles}
 use Rattle.host_model.specs.Leaves.{LeavesOnly, Shows, AllSettled}
 use Rattle.host_model.specs.Alters.{Alters}
 use Rattle.host_model.specs.declared.fault.HostFault.{HostFault}
 use Rattle.host_model.specs.declared.fault.HostFault.TheVariants.{Disk, Source, Sink, Memory}
 use Rattle.host_model.specs.declared.fault.Stop.{Stop}
 use Rattle.host_model.specs.declared.fault.Stop.TheVariants.{Host, Damaged, Full, NoMemory}
-use Rattle.host_model.proofs.CallsLemmas.{still_faithful, was_faithful}
 use Rattle.host_model.proofs.LeavesLemmas.{alters_leave}
 use Rattle.node_store.specs.Image.{IsNodeFile, IsStored}
-use Rattle.script_words.specs.declared.line.Line.{Line}
 use Rattle.script_words.specs.declared.line.Line.TheVariants.{CreateTable}
-use Rattle.script_words.specs.declared.reply.Answer.{Answer}
 use Rattle.script_words.specs.declared.reply.Answer.TheVariants.{Ok as Done, Refused}
 use Rattle.script_words.specs.declared.reply.Refusal.TheVariants.{Exists}
 use Rattle.table_store.specs.Layout.{nodes_name}
-use Rattle.table_store.specs.Tables.{Tables, created, is_taken}
+use Rattle.table_store.specs.Tables.{created, is_taken}
 use Rattle.table_store.specs.Kept.{IsKept}
-use Rattle.table_store.specs.StoreValue.{StoreValue, MayCreate, Creates, HasCreated, CreateStops, IsUnasked, entry_of}
-use Rattle.table_store.specs.declared.operation.Entry.{Entry}
+use Rattle.table_store.specs.Room.{AddsTable}
+use Rattle.table_store.specs.StoreValue.{StoreValue, MayCreate, Creates, HasCreated, CreateStops, IsUnasked, entry_of, station_of}
+use Rattle.plain_model.specs.declared.operation.Entry.{Entry}
 use Rattle.shell.specs.Serving.{answer_to, tables_after, entries_of}
 use Rattle.shell.proofs.LineLemmas.{only_start}
-use Rattle.shell.specs.LineServed.{IsSure, IsBefore, DidNothing, IsInDoubt, LineStops, DoesLine}
+use Rattle.shell.specs.Walk.{Steps}
+use Rattle.shell.specs.LineServed.{IsSure, IsBefore, DidNothing, IsInDoubt, IsEarlyStop, IsCommitStop, StopCounts, DoesLine}
 
 module _ (number : ℕ) (name : List ℕ) (old new : StoreValue) (before now : HostState) (sound : IsSound before) (sure : IsSure old before) (free : is_taken name old.tables ≡ false) where
   after_is : tables_after (CreateTable name) old.tables ≡ created name old.tables
@@ -41,6 +40,9 @@ module _ (number : ℕ) (name : List ℕ) (old new : StoreValue) (before now : H
 
   may_kept : {image : Image} → IsKept image old.tables ⊎ IsKept image (created name old.tables) → IsKept image old.tables ⊎ IsKept image (tables_after (CreateTable name) old.tables)
   may_kept either = ⊎_elim (λ kept. inl kept) (λ kept. inr (after_kept kept)) either
+
+  steps_of : AddsTable name (station_of old) (station_of new) → Steps (CreateTable name) (station_of old) (station_of new)
+  steps_of adds = subst (λ (b : Bool). MatchBool b (station_of new ≡ station_of old) (AddsTable name (station_of old) (station_of new))) (sym free) adds
 
   module _ {result : Result Bool Stop} (alters : Alters (IsNodeFile nodes_name) (MayCreate name old.tables) (Creates name old.tables) result before now) where
     shows : IsTrue before.is_honest → AllSettled before → LeavesOnly (Shows (λ image. IsKept image old.tables ⊎ IsKept image (tables_after (CreateTable name) old.tables)) before.said) before now
@@ -59,7 +61,7 @@ module _ (number : ℕ) (name : List ℕ) (old new : StoreValue) (before now : H
     running = has.running;
     sure = record { stored = stored; kept = kept };
     doubt = has.doubt;
-    tables = has.tables ∙ sym after_is;
+    steps = steps_of has.adds;
     history = has.history ∙ ap (λ (l : List Entry). old.history ++ l) (sym entries_are);
     halts = λ f. tt;
     stops = tt;
@@ -67,14 +69,11 @@ module _ (number : ℕ) (name : List ℕ) (old new : StoreValue) (before now : H
     rests = λ h rests. alters.rests h rests;
   }
 
-  stops_so : (stop : Stop) → CreateStops stop number name old new before now → LineStops stop new before now
-  stops_so (Host Disk) why = why.1
-  stops_so (Host Source) why = why.0
-  stops_so (Host Sink) why = absurd why.0
-  stops_so (Host Memory) why = why.1
+  stops_so : (stop : Stop) → CreateStops stop number name old new before now → StopCounts stop before now
+  stops_so (Host fault) why = why.1
   stops_so (Damaged named) why = why
-  stops_so Full why = why.0
-  stops_so NoMemory why = why
+  stops_so Full why = tt
+  stops_so NoMemory why = tt
 
   -- a stop fell into it
   pub stopped_line : (stop : Stop) → Alters (IsNodeFile nodes_name) (MayCreate name old.tables) (Creates name old.tables) {T = Bool} {E = Stop} (Err stop) before now → new.history ≡ old.history → CreateStops stop number name old new before now
@@ -85,7 +84,7 @@ module _ (number : ℕ) (name : List ℕ) (old new : StoreValue) (before now : H
     running = tt;
     sure = tt;
     doubt = tt;
-    tables = tt;
+    steps = tt;
     history = tt;
     halts = λ f. halts_at f stop (alters.tried f) why untouched;
     stops = stops_so stop why;
@@ -93,8 +92,9 @@ module _ (number : ℕ) (name : List ℕ) (old new : StoreValue) (before now : H
     rests = λ h rests. tt;
   }
     where
-      nothing : IsTrue before.is_faithful → new.doubt ≡ [] → now ≡ before → DidNothing old new before now
-      nothing f doubt same = record {
+      nothing : (s : Stop) → IsEarlyStop s (CreateTable name) (station_of old) → IsTrue before.is_faithful → new.doubt ≡ [] → now ≡ before → DidNothing s (CreateTable name) old new before now
+      nothing s why f doubt same = record {
+        why = why;
         history = history;
         doubt = doubt;
         said = ap (λ (s : HostState). s.said) same;
@@ -102,9 +102,15 @@ module _ (number : ℕ) (name : List ℕ) (old new : StoreValue) (before now : H
         leaves = λ h rests. subst (λ (s : HostState). LeavesOnly (IsBefore old.tables before.said) before s) (sym same) (only_start sound h rests (record { kept = sure.kept f; said_is = refl }));
       }
 
+      committing : (fault : HostFault) → IsOfFiles fault → IsCommitStop (Host fault)
+      committing Disk of = tt
+      committing Source of = of
+      committing Sink of = of
+      committing Memory of = tt
+
       halts_at : IsTrue before.is_faithful → (s : Stop) → MayCreate name old.tables before.files now.files → CreateStops s number name old new before now → (IsUnasked s → now ≡ before)
-          → DidNothing old new before now ⊎ IsInDoubt number (CreateTable name) old new before now
-      halts_at f (Host fault) step cause same = inr (record { history = history; doubt = cause.2 ∙ sym entries_are; said = alters.quiet.said f; kept = may_kept (step.each (sure.kept f)) })
+          → DidNothing s (CreateTable name) old new before now ⊎ IsInDoubt s number (CreateTable name) old new before now
+      halts_at f (Host fault) step cause same = inr (record { why = committing fault cause.0; history = history; doubt = cause.2 ∙ sym entries_are; said = alters.quiet.said f; kept = may_kept (step.each (sure.kept f)) })
       halts_at f (Damaged named) step cause same = absurd cause
-      halts_at f Full step cause same = inl (nothing f cause.0 (same tt))
-      halts_at f NoMemory step cause same = inl (nothing f cause (same tt))
+      halts_at f Full step cause same = inl (nothing Full (free, cause.1) f cause.0 (same tt))
+      halts_at f NoMemory step cause same = inl (nothing NoMemory tt f cause (same tt))

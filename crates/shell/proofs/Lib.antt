@@ -1,4 +1,5 @@
 pub mod OverLemmas
+pub mod WalkLemmas
 pub mod LineLemmas
 pub mod CreateLemmas
 pub mod ServeLemmas
@@ -9,3 +10,14 @@ pub mod EndLemmas
 pub mod AfterLemmas
 pub mod RunLemmas
 pub mod OpeningLemmas
+pub mod PlainLemmas
+pub mod SourceLemmas
+pub mod ReportLemmas
+pub mod FrontLemmas
+pub mod StandsLemmas
+pub mod UnbegunLemmas
+pub mod HeadlineLemmas
+pub mod ReachedLemmas
+pub mod DoubtLemmas
+pub mod MeetsLemmas
+pub mod CompleteLemmas

@@ -1,22 +1,20 @@
 -- What a line does, from what the calls below it do.
-use Rattle.std.proofs.Common.{◌≡◌, ◌⊎◌, inl, inr, ℕ, ◌+◌, Bool, true, false, List, [], ◌∷◌, ◌++◌, take, length, Option, Some, None, Result, Ok, Err, IsTrue, IfOk, IfErr, OnOk, OnErr, refl, sym, ◌∙◌, ap, subst, arith}
-use Rattle.std.proofs.lemmas.List.{append-nil, take_all}
-use Rattle.host_model.specs.Picture.{Picture, Image}
+use Rattle.std.proofs.Common.{◌≡◌, ◌⊎◌, inl, ℕ, [], ◌++◌, Option, None, Ok, Err, IsTrue, refl, sym, ◌∙◌, ap, subst}
+use Rattle.std.proofs.lemmas.List.{append-nil}
+use Rattle.host_model.specs.Picture.{Picture}
 use Rattle.host_model.specs.State.{HostState, picture_now}
-use Rattle.host_model.specs.Calls.{IsSound, IsQuiet, Keeps, Says}
-use Rattle.host_model.specs.Leaves.{LeavesOnly, Shows, Told, AllSettled}
-use Rattle.host_model.specs.declared.fault.HostFault.{HostFault}
-use Rattle.host_model.specs.declared.fault.Stop.{Stop}
-use Rattle.host_model.specs.declared.fault.Stop.TheVariants.{Host, Damaged, Full, NoMemory}
-use Rattle.host_model.proofs.CallsLemmas.{keeps-refl, keeps-then, quiet-refl, still_faithful, still_honest, was_faithful}
-use Rattle.host_model.proofs.LeavesLemmas.{leaves_start, leaves_weaker, leaves_then, rests_shows, says_leave, rests_after_say}
+use Rattle.host_model.specs.Calls.{IsSound}
+use Rattle.host_model.specs.Leaves.{LeavesOnly, Shows, AllSettled}
+use Rattle.host_model.specs.declared.fault.Stop.TheVariants.{NoMemory}
+use Rattle.host_model.proofs.CallsLemmas.{quiet-refl}
+use Rattle.host_model.proofs.LeavesLemmas.{leaves_start, rests_shows}
 use Rattle.script_words.specs.declared.line.Line.{Line}
 use Rattle.script_words.specs.declared.reply.Answer.{Answer}
-use Rattle.table_store.specs.Tables.{Tables}
 use Rattle.table_store.specs.Kept.{IsKept}
-use Rattle.table_store.specs.StoreValue.{StoreValue}
-use Rattle.shell.specs.Serving.{answer_to, spelled, tables_after, entries_of, reply_to}
-use Rattle.shell.specs.LineServed.{IsSure, IsBefore, IsBehind, IsLinePicture, DidNothing, IsInDoubt, IsUnreported, LineStops, DoesLine, ServesLine}
+use Rattle.table_store.specs.StoreValue.{StoreValue, station_of}
+use Rattle.shell.specs.Serving.{answer_to, tables_after, entries_of}
+use Rattle.shell.specs.Walk.{Steps}
+use Rattle.shell.specs.LineServed.{IsSure, DoesLine}
 
 -- nothing is asked of the host
 pub only_start : {kind : Picture → Type 0} {state : HostState} → IsSound state → IsTrue state.is_honest → AllSettled state → kind (picture_now state) → LeavesOnly kind state state
@@ -27,14 +25,14 @@ module _ (number : ℕ) (line : Line) (store : StoreValue) (state : HostState) (
   shows_now h rests = only_start sound h rests (record { image = inl (sure.kept (sound.faithful h)); said_is = refl })
 
   -- a line that changes nothing is answered
-  pub does_nothing : (answer : Option Answer) → store.is_stopped ≡ false → store.doubt ≡ [] → answer ≡ answer_to line store.tables → tables_after line store.tables ≡ store.tables → entries_of number line store.tables ≡ [] → DoesLine number line (Ok answer) store store state state
-  does_nothing answer running doubt is tables entries = record {
+  pub does_nothing : (answer : Option Answer) → store.stop ≡ None → store.doubt ≡ [] → answer ≡ answer_to line store.tables → Steps line (station_of store) (station_of store) → entries_of number line store.tables ≡ [] → DoesLine number line (Ok answer) store store state state
+  does_nothing answer running doubt is steps entries = record {
     quiet = quiet-refl state;
     answer = is;
     running = running;
     sure = sure;
     doubt = doubt;
-    tables = sym tables;
+    steps = steps;
     history = sym (append-nil store.history) ∙ ap (λ l. store.history ++ l) (sym entries);
     halts = λ f. tt;
     stops = tt;
@@ -50,10 +48,10 @@ module _ (number : ℕ) (line : Line) (store : StoreValue) (state : HostState) (
     running = tt;
     sure = tt;
     doubt = tt;
-    tables = tt;
+    steps = tt;
     history = tt;
-    halts = λ f. inl (record { history = refl; doubt = doubt; said = refl; kept = sure.kept f; leaves = λ h rests. only_start sound h rests (record { kept = sure.kept f; said_is = refl }) });
-    stops = doubt;
+    halts = λ f. inl (record { why = tt; history = refl; doubt = doubt; said = refl; kept = sure.kept f; leaves = λ h rests. only_start sound h rests (record { kept = sure.kept f; said_is = refl }) });
+    stops = tt;
     leaves = shows_now;
     rests = λ h rests. tt;
   }

@@ -1,88 +1,112 @@
 -- What a store that was opened or made leaves for the serving of its script.
-use Rattle.std.proofs.Common.{◌≡◌, ◌⊎◌, inl, inr, ⊎_elim, ℕ, ◌+◌, ◌≤◌, Bool, true, false, List, [], ◌++◌, length, take, Option, Result, Ok, Err, IsTrue, IfOk, IfErr, OnOk, refl, sym, ◌∙◌, ap, subst, arith}
+use Rattle.std.proofs.Common.{◌≡◌, inl, inr, ⊎_elim, ℕ, Bool, true, false, List, ◌++◌, length, Result, Ok, Err, IsTrue, IfOk, IfErr, OnOk, refl, sym, ap, subst, arith}
 use Rattle.std.proofs.lemmas.Bool.{false≢true}
-use Rattle.std.proofs.lemmas.List.{append-nil}
 use Rattle.std.specs.Option.{option_to_list}
 use Rattle.host_model.specs.Picture.{Picture}
 use Rattle.host_model.specs.State.{HostState, picture_now}
-use Rattle.host_model.specs.Calls.{IsSound, Keeps, IsQuiet, Looks, Counted}
-use Rattle.host_model.specs.Leaves.{LeavesOnly, Shows, AllSettled}
-use Rattle.host_model.specs.declared.fault.HostFault.TheVariants.{Disk, Source, Sink, Memory}
+use Rattle.host_model.specs.Calls.{IsSound, Keeps, IsQuiet, Looks}
+use Rattle.host_model.specs.Leaves.{LeavesOnly, AllSettled}
 use Rattle.host_model.specs.declared.fault.Stop.{Stop}
 use Rattle.host_model.specs.declared.fault.Stop.TheVariants.{Host, Damaged, Full, NoMemory}
 use Rattle.host_model.proofs.CallsLemmas.{keeps-then, counted-then, still_faithful, still_honest, was_faithful, on_ok_of}
 use Rattle.host_model.proofs.LeavesLemmas.{leaves_weaker, leaves_then, same_leave, rests_after_same}
 use Rattle.table_store.specs.Tables.{Tables, no_tables}
+use Rattle.table_store.specs.Room.{Station, IsNewStation}
+use Rattle.table_store.specs.Layout.{nodes_name}
 use Rattle.table_store.specs.Kept.{IsKept, IsUnbornDisk}
 use Rattle.node_store.specs.Image.{IsStored}
-use Rattle.table_store.specs.StoreValue.{StoreValue, IsFresh, Makes, InitStops, OpenStops}
+use Rattle.table_store.specs.StoreValue.{StoreValue, IsFresh, Makes, InitStops, OpenStops, station_of}
 use Rattle.table_store.specs.declared.stop.StoreStop.{StoreStop}
-use Rattle.table_store.specs.declared.operation.Entry.{Entry}
-use Rattle.shell.specs.LineServed.{IsSure}
+use Rattle.plain_model.specs.declared.operation.Entry.{Entry}
+use Rattle.shell.specs.LineServed.{IsSure, StopCounts}
 use Rattle.script_source.specs.Script.{lines_of}
 use Rattle.shell.specs.Script.{texts_of, AreWithin}
-use Rattle.shell.specs.Serving.{entries_over}
-use Rattle.shell.specs.ScriptServed.{tables_at, replies_at, IsLastPicture, HasRun, HasServedAll, HasRefusedLine, HasEnded, LeavesFronts, ScriptStops}
-use Rattle.shell.specs.Running.{Begins, ServesScript, IsUnbegun, MayBeLeft, LeavesLines, LeavesDisk, OpensStore, HasStore}
+use Rattle.shell.specs.ScriptServed.{entries_at, HasDone, LastLine, HasServedAll, HasRefused, HasStopped, HasEnded}
+use Rattle.shell.specs.Crash.{IsLastPicture, LeavesFronts}
+use Rattle.shell.specs.Running.{Begins, ServesScript, LeavesLines, LeavesDisk, OpensStore}
 use Rattle.shell.specs.declared.outcomes.Outcome.{Outcome}
 use Rattle.shell.specs.declared.ending.Ending.{Ending}
 use Rattle.shell.specs.declared.ending.Ending.TheVariants.{ScriptEnd, NoLine}
 
 -- what the serving of the script left, in terms of a moment before it
-record LeavesSince (tables : Tables) (past maybe : List Entry) (first mid now : HostState) : Type 0 where
-  tried : ℕ
-  within : AreWithin (lines_of first.script) tried
-  all : past ++ maybe ≡ entries_over 1 (take tried (texts_of first.script)) tables
-  leaves : LeavesOnly (IsLastPicture tables (texts_of first.script) tried first.said) mid now
+pub record LeavesSince (tables : Tables) (past maybe : List Entry) (first mid now : HostState) : Type 0 where
+  pub tried : ℕ
+  pub within : AreWithin (lines_of first.script) tried
+  pub all : past ++ maybe ≡ entries_at tried (texts_of first.script) tables
+  pub leaves : LeavesOnly (IsLastPicture tables (texts_of first.script) tried first.said) mid now
 
-module _ (first mid now : HostState) (tables : Tables) (said : first.said ≡ mid.said) (script : first.script ≡ mid.script) where
-  served_since : {lines : ℕ} {past maybe : List Entry} → HasServedAll mid tables lines past maybe now → HasServedAll first tables lines past maybe now
-  served_since is = record {
-    all = rw script is.all;
+module _ (first mid now : HostState) (start : Station) (said : first.said ≡ mid.said) (script : first.script ≡ mid.script) where
+  done_since : {count : ℕ} {past : List Entry} → HasDone mid start count past now → HasDone first start count past now
+  done_since is = record {
     within = rw script is.within;
-    heard = is.heard;
+    station = is.station;
+    walks = rw script is.walks;
     history = rw script is.history;
-    doubt = is.doubt;
-    said = rw (script, said) is.said;
     kept = rw script is.kept;
   }
 
-  refused_since : {lines : ℕ} {past maybe : List Entry} → HasRefusedLine mid tables lines past maybe now → HasRefusedLine first tables lines past maybe now
-  refused_since is = record {
-    served = is.served;
+  last_since : {lines : ℕ} → LastLine mid lines → LastLine first lines
+  last_since is = record {
+    before = is.before;
     lines_are = is.lines_are;
     within = rw script is.within;
-    over = rw script is.over;
-    history = rw script is.history;
+    text = is.text;
+    is = rw script is.is;
+  }
+
+  served_since : {lines : ℕ} {past maybe : List Entry} → HasServedAll mid start lines past maybe now → HasServedAll first start lines past maybe now
+  served_since is = record {
+    all = rw script is.all;
+    heard = is.heard;
+    done = done_since is.done;
     doubt = is.doubt;
     said = rw (script, said) is.said;
-    kept = rw script is.kept;
   }
 
-  run_since : {lines : ℕ} {past maybe : List Entry} → HasRun mid tables lines past maybe now → HasRun first tables lines past maybe now
-  run_since is = record {
-    committed = is.committed;
-    tried = is.tried;
-    order = rw (script, said) is.order;
-    within = rw script is.within;
-    heard = is.heard;
-    history = rw script is.history;
-    all = rw script is.all;
-    kept = rw script is.kept;
-    answered = is.answered;
-    answers = is.answers;
-    next = is.next;
-    next_is = rw script is.next_is;
-    count = is.count;
+  refused_since : {lines : ℕ} {past maybe : List Entry} {front : List ℕ} → HasRefused mid start lines past maybe front now → HasRefused first start lines past maybe front now
+  refused_since is = record {
+    before = is.before;
+    lines_are = is.lines_are;
+    over = rw script is.over;
+    done = done_since is.done;
+    doubt = is.doubt;
     said = rw (script, said) is.said;
   }
 
-  pub ended_since : (ending : Result Ending Stop) (lines : ℕ) (past maybe : List Entry) → HasEnded ending mid tables lines past maybe now → HasEnded ending first tables lines past maybe now
+  stopped_since : {lines : ℕ} {past maybe : List Entry} (stop : Stop) → HasStopped stop mid start lines past maybe now → HasStopped stop first start lines past maybe now
+  unfolding done_since last_since
+  stopped_since stop (inl is) = inl (record { why = is.why; done = done_since is.done; doubt = is.doubt; said = rw (script, said) is.said })
+  stopped_since stop (inr (inl is)) = inr (inl (record { why = is.why; count = is.count; refused = refused_since is.refused }))
+  stopped_since stop (inr (inr (inl is))) = inr (inr (inl (record {
+    last = last_since is.last;
+    done = done_since is.done;
+    why = is.why;
+    doubt = is.doubt;
+    said = rw (script, said) is.said;
+  })))
+  stopped_since stop (inr (inr (inr (inl is)))) = inr (inr (inr (inl (record {
+    why = is.why;
+    last = last_since is.last;
+    history = rw script is.history;
+    doubt = rw script is.doubt;
+    kept = rw script is.kept;
+    said = rw (script, said) is.said;
+  }))))
+  stopped_since stop (inr (inr (inr (inr is)))) = inr (inr (inr (inr (record {
+    why = is.why;
+    last = last_since is.last;
+    done = done_since is.done;
+    doubt = is.doubt;
+    count = is.count;
+    said = rw (script, said) is.said;
+  }))))
+
+  pub ended_since : (ending : Result Ending Stop) (lines : ℕ) (past maybe : List Entry) → HasEnded ending mid start lines past maybe now → HasEnded ending first start lines past maybe now
   ended_since (Ok ScriptEnd) lines past maybe is = served_since is
   ended_since (Ok NoLine) lines past maybe is = refused_since is
-  ended_since (Err stop) lines past maybe is = run_since is
+  ended_since (Err stop) lines past maybe is = stopped_since stop is
 
-  leaves_since : (past maybe : List Entry) → LeavesFronts mid tables past maybe now → LeavesSince tables past maybe first mid now
+  pub leaves_since : (past maybe : List Entry) → LeavesFronts mid start.tables past maybe now → LeavesSince start.tables past maybe first mid now
   leaves_since past maybe is = record {
     tried = is.tried;
     within = rw script is.within;
@@ -90,56 +114,53 @@ module _ (first mid now : HostState) (tables : Tables) (said : first.said ≡ mi
     leaves = rw (script, said) is.leaves;
   }
 
-stops_since : (stop : Stop) (maybe : List Entry) (first mid now : HostState) → Keeps first mid → ScriptStops stop maybe mid now → ScriptStops stop maybe first now
-stops_since (Host Disk) maybe first mid now keeps why = counted-then Disk first.faults mid.faults now.faults keeps.counts why
-stops_since (Host Source) maybe first mid now keeps why = (counted-then Source first.faults mid.faults now.faults keeps.counts why.0, why.1)
-stops_since (Host Sink) maybe first mid now keeps why = (counted-then Sink first.faults mid.faults now.faults keeps.counts why.0, why.1)
-stops_since (Host Memory) maybe first mid now keeps why = counted-then Memory first.faults mid.faults now.faults keeps.counts why
-stops_since (Damaged name) maybe first mid now keeps why = why
-stops_since Full maybe first mid now keeps why = why
-stops_since NoMemory maybe first mid now keeps why = why
-
-if_err_since : (ending : Result Ending Stop) (maybe : List Entry) (first mid now : HostState) → Keeps first mid → IfErr ending (λ stop. ScriptStops stop maybe mid now) → IfErr ending (λ stop. ScriptStops stop maybe first now)
-if_err_since (Ok ending) maybe first mid now keeps why = tt
-if_err_since (Err stop) maybe first mid now keeps why = stops_since stop maybe first mid now keeps why
+counts_since : (ending : Result Ending Stop) (first mid now : HostState) → Keeps first mid → IfErr ending (λ stop. StopCounts stop mid now) → IfErr ending (λ stop. StopCounts stop first now)
+counts_since (Ok ending) first mid now keeps why = tt
+counts_since (Err stop) first mid now keeps why = at stop why
+  where
+    at : (stop : Stop) → StopCounts stop mid now → StopCounts stop first now
+    at (Host fault) why = counted-then fault first.faults mid.faults now.faults keeps.counts why
+    at (Damaged name) why = why
+    at Full why = tt
+    at NoMemory why = tt
 
 -- the start of a script shows the tables as they were
 at_start : {tables : Tables} {texts : List (List ℕ)} {tried : ℕ} {said : List ℕ} (p : Picture) → IsKept p.image tables → p.said ≡ said → IsLastPicture tables texts tried said p
 at_start p kept said_is = record { done = 0; within = omega arith; kept = kept; quiet = inr (omega (arith, ap length said_is)) }
 
-module _ {first mid now : HostState} {tables : Tables} {outcome : Outcome} (sound : IsSound first) (quiet : IsQuiet first mid) (rests_mid : IsTrue first.is_honest → AllSettled first → AllSettled mid) where
-  pub serves_since : ServesScript mid tables outcome now → ServesScript first tables outcome now
+module _ {first mid now : HostState} (start : Station) {outcome : Outcome} (sound : IsSound first) (quiet : IsQuiet first mid) (rests_mid : IsTrue first.is_honest → AllSettled first → AllSettled mid) where
+  pub serves_since : ServesScript mid start outcome now → ServesScript first start outcome now
   serves_since is = record {
     ending = is.ending;
     status = is.status;
     damaged = is.damaged;
     keeps = keeps-then quiet.keeps is.keeps;
-    ended = λ f. ended_since first mid now tables (sym (quiet.said f)) (sym (quiet.script f)) is.ending outcome.lines outcome.history (option_to_list outcome.doubt) (is.ended (still_faithful quiet.keeps f));
-    stops = if_err_since is.ending (option_to_list outcome.doubt) first mid now quiet.keeps is.stops;
+    ended = λ f. ended_since first mid now start (sym (quiet.said f)) (sym (quiet.script f)) is.ending outcome.lines outcome.history (option_to_list outcome.doubt) (is.ended (still_faithful quiet.keeps f));
+    stops = counts_since is.ending first mid now quiet.keeps is.stops;
     rests = λ h rests. is.rests (still_honest quiet.keeps h) (rests_mid h rests);
   }
 
-  pub lines_since : (init : Bool) → LeavesDisk init first mid → (IsTrue first.is_faithful → Begins init first.files tables)
-      → (IsTrue mid.is_honest → AllSettled mid → LeavesFronts mid tables outcome.history (option_to_list outcome.doubt) now)
-      → IsTrue first.is_honest → AllSettled first → LeavesLines init first tables outcome now
+  pub lines_since : (init : Bool) → LeavesDisk init first mid → (IsTrue first.is_faithful → Begins init first.files start)
+      → (IsTrue mid.is_honest → AllSettled mid → LeavesFronts mid start.tables outcome.history (option_to_list outcome.doubt) now)
+      → IsTrue first.is_honest → AllSettled first → LeavesLines init first start.tables outcome now
   lines_since false left begins crash h rests =
       let f = sound.faithful h in
-      let is = leaves_since first mid now tables (sym (quiet.said f)) (sym (quiet.script f)) _ _ (crash (still_honest quiet.keeps h) (rests_mid h rests)) in
+      let is = leaves_since first mid now start (sym (quiet.said f)) (sym (quiet.script f)) _ _ (crash (still_honest quiet.keeps h) (rests_mid h rests)) in
       record {
         tried = is.tried;
         within = is.within;
         all = is.all;
-        leaves = leaves_then (same_leave _ sound h rests ((left.looks refl).moves h) (at_start (picture_now first) (begins f) refl)) is.leaves;
+        leaves = leaves_then (same_leave _ sound h rests ((left.looks refl).moves h) (at_start (picture_now first) (begins f).kept refl)) is.leaves;
       }
   lines_since true left begins crash h rests =
       let f = sound.faithful h in
-      let is = leaves_since first mid now tables (sym (quiet.said f)) (sym (quiet.script f)) _ _ (crash (still_honest quiet.keeps h) (rests_mid h rests)) in
+      let is = leaves_since first mid now start (sym (quiet.said f)) (sym (quiet.script f)) _ _ (crash (still_honest quiet.keeps h) (rests_mid h rests)) in
       record {
         tried = is.tried;
         within = is.within;
         all = is.all;
         leaves = leaves_then
-            (leaves_weaker (left.leaves refl h rests (begins f).0) (λ p shows. ⊎_elim (λ unborn. inl (record { unborn = unborn; said_is = shows.said_is })) (λ kept. inr (at_start p (subst (λ t. IsKept p.image t) (sym (begins f).1) kept) shows.said_is)) shows.image))
+            (leaves_weaker (left.leaves refl h rests (begins f).0) (λ p shows. ⊎_elim (λ unborn. inl (record { unborn = unborn; said_is = shows.said_is })) (λ kept. inr (at_start p (subst (λ t. IsKept p.image t) (sym (begins f).1.tables) kept) shows.said_is)) shows.image))
             (leaves_weaker is.leaves (λ p last. inr last));
       }
 
@@ -149,20 +170,24 @@ sure_of (Ok store) new stored kept = record { stored = stored; kept = kept }
 sure_of (Err stop) new stored kept = tt
 
 module _ (result : Result StoreValue StoreStop) {old new : HostState} where
-  pub opens : IsSound old → Looks old new → IfOk result IsFresh → (IsTrue old.is_faithful → IfOk result (λ store. IsStored store.nodes old.files)) → (IsTrue old.is_faithful → IfOk result (λ store. IsKept old.files store.tables))
+  pub opens : IsSound old → Looks old new → IfOk result IsFresh → (IsTrue old.is_faithful → IfOk result (λ store. IsStored store.nodes old.files)) → IfOk result (λ store. store.nodes.name ≡ nodes_name) → (IsTrue old.is_faithful → IfOk result (λ store. IsKept old.files store.tables))
       → IfErr result (λ stop. OpenStops stop old new) → OpensStore false result old new
-  opens sound looks fresh stored kept stops = record {
+  opens sound looks fresh stored file kept stops = record {
     fresh = fresh;
     sure = sure_of result new
         (λ n. let f = was_faithful looks.quiet.keeps n in subst (λ i. IfOk result (λ store. IsStored store.nodes i)) (sym (looks.same f)) (stored f))
         (λ n. let f = was_faithful looks.quiet.keeps n in subst (λ i. IfOk result (λ store. IsKept i store.tables)) (sym (looks.same f)) (kept f));
-    begins = kept;
+    begins = λ f. store_at result (stored f) file (kept f);
     stops = stops;
     left = record { quiet = looks.quiet; looks = λ _. looks; tried = λ e. absurd (false≢true e); leaves = λ e. absurd (false≢true e) };
     rests = λ h rests. on_ok_of result (rests_after_same (looks.moves h) (looks.same (sound.faithful h)) rests);
   }
+    where
+      store_at : (r : Result StoreValue StoreStop) → IfOk r (λ store. IsStored store.nodes old.files) → IfOk r (λ store. store.nodes.name ≡ nodes_name) → IfOk r (λ store. IsKept old.files store.tables) → IfOk r (λ store. Begins false old.files (station_of store))
+      store_at (Ok store) stored file kept = record { stored = stored; file = file; kept = kept }
+      store_at (Err stop) stored file kept = tt
 
-  pub makes_store : Makes result old new → IfOk result (λ store. IsFresh store × (store.tables ≡ no_tables)) → (IsTrue new.is_faithful → IfOk result (λ store. IsStored store.nodes new.files)) → (IsTrue new.is_faithful → OnOk result (IsKept new.files no_tables))
+  pub makes_store : Makes result old new → IfOk result (λ store. IsFresh store × IsNewStation (station_of store)) → (IsTrue new.is_faithful → IfOk result (λ store. IsStored store.nodes new.files)) → (IsTrue new.is_faithful → OnOk result (IsKept new.files no_tables))
       → (IsTrue old.is_faithful → OnOk result (IsUnbornDisk old.files)) → IfErr result (λ stop. InitStops stop old new) → OpensStore true result old new
   makes_store makes made stored kept unborn stops = record {
     fresh = fresh_at result made;
@@ -178,14 +203,14 @@ module _ (result : Result StoreValue StoreStop) {old new : HostState} where
     rests = makes.rests;
   }
     where
-      fresh_at : (r : Result StoreValue StoreStop) → IfOk r (λ store. IsFresh store × (store.tables ≡ no_tables)) → IfOk r IsFresh
+      fresh_at : (r : Result StoreValue StoreStop) → IfOk r (λ store. IsFresh store × IsNewStation (station_of store)) → IfOk r IsFresh
       fresh_at (Ok store) is = is.0
       fresh_at (Err stop) is = tt
 
-      kept_at : (r : Result StoreValue StoreStop) → IfOk r (λ store. IsFresh store × (store.tables ≡ no_tables)) → OnOk r (IsKept new.files no_tables) → IfOk r (λ store. IsKept new.files store.tables)
-      kept_at (Ok store) is kept = subst (λ t. IsKept new.files t) (sym is.1) kept
+      kept_at : (r : Result StoreValue StoreStop) → IfOk r (λ store. IsFresh store × IsNewStation (station_of store)) → OnOk r (IsKept new.files no_tables) → IfOk r (λ store. IsKept new.files store.tables)
+      kept_at (Ok store) is kept = subst (λ t. IsKept new.files t) (sym is.1.tables) kept
       kept_at (Err stop) is kept = tt
 
-      begins_at : (r : Result StoreValue StoreStop) → IfOk r (λ store. IsFresh store × (store.tables ≡ no_tables)) → OnOk r (IsUnbornDisk old.files) → IfOk r (λ store. Begins true old.files store.tables)
+      begins_at : (r : Result StoreValue StoreStop) → IfOk r (λ store. IsFresh store × IsNewStation (station_of store)) → OnOk r (IsUnbornDisk old.files) → IfOk r (λ store. Begins true old.files (station_of store))
       begins_at (Ok store) is was = (was, is.1)
       begins_at (Err stop) is was = tt

@@ -1,8 +1,8 @@
 -- Lines served one after another.
-use Rattle.std.proofs.Common.{◌≡◌, inl, inr, ℕ, zero, suc, ◌+◌, ◌<◌, ◌≤◌, List, [], ◌∷◌, ◌++◌, length, take, drop, refl, sym, ◌∙◌, ap, subst, arith, append_assoc, length-append}
+use Rattle.std.proofs.Common.{◌≡◌, ℕ, ◌+◌, List, [], ◌∷◌, ◌++◌, length, refl, sym, ◌∙◌, ap, arith, append_assoc}
 use Rattle.script_words.specs.Lines.{line_of}
 use Rattle.table_store.specs.Tables.{Tables}
-use Rattle.table_store.specs.declared.operation.Entry.{Entry}
+use Rattle.plain_model.specs.declared.operation.Entry.{Entry}
 use Rattle.shell.specs.Serving.{tables_after, entries_of, reply_to, tables_over, replies_over, entries_over}
 
 pub tables_over-append : (xs ys : List (List ℕ)) (t : Tables) → tables_over (xs ++ ys) t ≡ tables_over ys (tables_over xs t)

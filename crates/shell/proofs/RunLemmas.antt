@@ -1,13 +1,16 @@
 -- What a run makes of the serving of its script.
-use Rattle.std.proofs.Common.{◌≡◌, ◌⊎◌, inl, inr, ⊎_elim, ℕ, ◌+◌, Bool, true, false, List, [], ◌++◌, Option, None, Result, Ok, Err, IsTrue, IfErr, OnOk, take, refl, sym, ◌∙◌, ap, subst, arith}
+use Rattle.std.proofs.Common.{◌≡◌, ℕ, List, Option, Result, IsTrue, IfErr, OnOk, ◌∙◌, ap}
 use Rattle.std.specs.Option.{option_to_list}
 use Rattle.host_model.specs.State.{HostState}
-use Rattle.host_model.specs.Calls.{IsSound, Keeps}
-use Rattle.host_model.specs.Leaves.{LeavesOnly, AllSettled}
+use Rattle.host_model.specs.Calls.{Keeps}
+use Rattle.host_model.specs.Leaves.{AllSettled}
 use Rattle.host_model.specs.declared.fault.Stop.{Stop}
+use Rattle.table_store.specs.Room.{Station}
+use Rattle.plain_model.specs.declared.operation.Entry.{Entry}
+use Rattle.shell.specs.LineServed.{StopCounts}
+use Rattle.shell.specs.ScriptServed.{HasEnded}
+use Rattle.shell.specs.Crash.{LeavesFronts}
 use Rattle.table_store.specs.Tables.{Tables}
-use Rattle.table_store.specs.declared.operation.Entry.{Entry}
-use Rattle.shell.specs.ScriptServed.{HasEnded, ScriptStops, LeavesFronts}
 use Rattle.shell.specs.Ending.{status_for, damaged_for}
 use Rattle.shell.specs.Running.{ServesScript}
 use Rattle.shell.specs.declared.outcomes.Outcome.{Outcome}
@@ -27,15 +30,15 @@ module _ (ending : Result Ending Stop) (lines : ℕ) (past maybe history : List 
   maybe_is : option_to_list outcome.doubt ≡ maybe
   maybe_is = ap (λ (o : Outcome). option_to_list o.doubt) told_by ∙ doubt_is
 
-  pub serves_told : {first now : HostState} {tables : Tables} → Keeps first now → (IsTrue first.is_faithful → HasEnded ending first tables lines past maybe now) → IfErr ending (λ stop. ScriptStops stop maybe first now)
-      → (IsTrue first.is_honest → AllSettled first → OnOk ending (AllSettled now)) → ServesScript first tables outcome now
+  pub serves_told : {first now : HostState} {start : Station} → Keeps first now → (IsTrue first.is_faithful → HasEnded ending first start lines past maybe now) → IfErr ending (λ stop. StopCounts stop first now)
+      → (IsTrue first.is_honest → AllSettled first → OnOk ending (AllSettled now)) → ServesScript first start outcome now
   serves_told keeps ended stops rests = record {
     ending = ending;
     status = ap (λ (o : Outcome). o.status) told_by;
     damaged = ap (λ (o : Outcome). o.damaged) told_by;
     keeps = keeps;
     ended = λ f. rw (lines_are, past_is, maybe_is) (ended f);
-    stops = rw maybe_is stops;
+    stops = stops;
     rests = rests;
   }
 

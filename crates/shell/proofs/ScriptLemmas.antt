@@ -1,32 +1,29 @@
 -- How the serving of a script goes on, line by line.
-use Rattle.std.proofs.Common.{◌≡◌, ◌⊎◌, inl, inr, ⊎_elim, ℕ, ◌+◌, ◌<◌, ◌≤◌, List, [], ◌∷◌, ◌++◌, length, take, drop, map, false, Result, Ok, Err, IsTrue, refl, sym, ◌∙◌, ap, subst, arith, append_assoc, length-append, length-take}
+use Rattle.std.proofs.Common.{◌≡◌, ℕ, ◌+◌, ◌≤◌, List, [], ◌∷◌, ◌++◌, length, take, drop, map, Some, None, slice_get, refl, sym, ◌∙◌, ap, subst, arith, length-take}
 use Rattle.std.specs.List.{AllByRecursion}
-use Rattle.std.proofs.lemmas.List.{length-map, append-nil}
-use Rattle.host_model.specs.Picture.{Picture}
-use Rattle.host_model.specs.State.{HostState, picture_now}
-use Rattle.host_model.specs.Calls.{IsSound, Keeps}
-use Rattle.host_model.specs.Leaves.{LeavesOnly, AllSettled}
-use Rattle.host_model.specs.declared.fault.Stop.{Stop}
-use Rattle.host_model.proofs.CallsLemmas.{keeps-refl, keeps-then, still_faithful, still_honest, was_faithful}
-use Rattle.host_model.proofs.LeavesLemmas.{leaves_weaker, leaves_then, same_leave, rests_after_same}
-use Rattle.script_source.specs.Script.{ScriptLine, lines_of, text_of}
-use Rattle.script_source.specs.Hearing.{Listens, TakesLine, max_line}
+use Rattle.std.proofs.lemmas.List.{append-nil}
+use Rattle.host_model.specs.State.{HostState}
+use Rattle.host_model.specs.Calls.{IsSound}
+use Rattle.host_model.proofs.CallsLemmas.{keeps-refl}
+use Rattle.script_source.specs.Script.{ScriptLine, text_of}
+use Rattle.script_source.specs.Hearing.{max_line}
 use Rattle.script_words.specs.Lines.{line_of}
 use Rattle.table_store.specs.Tables.{Tables}
-use Rattle.table_store.specs.Kept.{IsKept}
-use Rattle.table_store.specs.StoreValue.{StoreValue}
-use Rattle.table_store.specs.declared.operation.Entry.{Entry}
-use Rattle.node_store.specs.Image.{IsStored}
+use Rattle.table_store.specs.Room.{Station}
+use Rattle.table_store.specs.StoreValue.{StoreValue, station_of}
 use Rattle.shell.specs.Serving.{tables_after, entries_of, reply_to, tables_over, replies_over, entries_over}
-use Rattle.shell.specs.Script.{texts_of, max_lines, AreWithin}
-use Rattle.shell.specs.LineServed.{IsSure, IsBefore, IsBehind, IsLinePicture, ServesLine}
-use Rattle.shell.specs.ScriptServed.{tables_at, replies_at, IsScriptPicture, HasServed}
+use Rattle.shell.specs.Script.{max_lines, AreWithin}
+use Rattle.shell.specs.LineServed.{IsSure}
+use Rattle.shell.specs.Walk.{Steps, Walks}
+use Rattle.shell.specs.ScriptServed.{tables_at, replies_at}
+use Rattle.shell.specs.Serve.{HasServed}
+use Rattle.shell.proofs.WalkLemmas.{walks-one_more}
 use Rattle.shell.proofs.OverLemmas.{tables_over-append, replies_over-append, entries_over-append}
-use Rattle.shell.proofs.SplitLemmas.{Splits, splits, drop-map, All-one_more}
+use Rattle.shell.proofs.SplitLemmas.{Splits, splits, drop-map, get_at, All-one_more}
 use Rattle.shell.proofs.LineLemmas.{only_start}
 
 -- before the first line
-pub served_start : (store : StoreValue) (first : HostState) → IsSound first → store.is_stopped ≡ false → store.doubt ≡ [] → store.history ≡ [] → IsSure store first → HasServed first store.tables 0 [] store first
+pub served_start : (store : StoreValue) (first : HostState) → IsSound first → store.stop ≡ None → store.doubt ≡ [] → store.history ≡ [] → IsSure store first → HasServed first (station_of store) 0 [] store first
 served_start store first sound running doubt history sure = record {
   keeps = keeps-refl first;
   running = running;
@@ -34,7 +31,7 @@ served_start store first sound running doubt history sure = record {
   doubt = doubt;
   within = λ f. record { there = omega arith; few = omega arith; short = tt };
   left = λ f. refl;
-  tables_are = λ f. refl;
+  walks = λ f. refl;
   history = λ f. history;
   said = λ f. sym (append-nil first.said);
   leaves = λ h rests. only_start sound h rests (record { done = 0; within = omega arith; kept = sure.kept (sound.faithful h); quiet = omega arith });
@@ -71,6 +68,12 @@ module _ (lines : List ScriptLine) (n : ℕ) (line : ScriptLine) (rest : List Sc
       ap (λ l. entries_over 1 l tables) at_text.front ∙ entries_over-append 1 (take n texts) (text_of line ∷ []) tables
       ∙ ap (λ m. entries_over 1 (take n texts) tables ++ (entries_of m (line_of (text_of line)) (tables_at n texts tables) ++ [])) e
       ∙ ap (λ l. entries_over 1 (take n texts) tables ++ l) (append-nil (entries_of (n + 1) (line_of (text_of line)) (tables_at n texts tables)))
+
+  pub walks_more : (start mid last : Station) → Walks (take n texts) start mid → Steps (line_of (text_of line)) mid last → Walks (take (n + 1) texts) start last
+  walks_more start mid last walks steps = subst (λ (l : List (List ℕ)). Walks l start last) (sym at_text.front) (walks-one_more (take n texts) (text_of line) start mid last walks steps)
+
+  pub text_here : slice_get texts n ≡ Some (text_of line)
+  text_here = get_at texts n (text_of line) (map text_of rest) (drop-map text_of n lines ∙ ap (λ l. map text_of l) here)
 
   pub within_more : AreWithin lines n → length line.bytes ≤ max_line → n + 1 ≤ max_lines → AreWithin lines (n + 1)
   within_more within short few = record {

@@ -1,25 +1,25 @@
 -- A line is done, and then its reply is said.
-use Rattle.std.proofs.Common.{◌≡◌, ◌⊎◌, inl, inr, ⊎_elim, ℕ, List, [], ◌∷◌, ◌++◌, take, length, Option, Some, None, Result, Ok, Err, IsTrue, OnOk, refl, sym, ◌∙◌, ap, subst, arith}
-use Rattle.std.proofs.lemmas.List.{append-nil, take_all}
-use Rattle.host_model.specs.Picture.{Picture, Image}
+use Rattle.std.proofs.Common.{◌≡◌, ◌⊎◌, inl, inr, ⊎_elim, ℕ, List, ◌++◌, take, Option, Some, None, Result, Ok, Err, IsTrue, sym, ◌∙◌, ap, subst}
+use Rattle.std.proofs.lemmas.List.{append-nil}
+use Rattle.host_model.specs.Picture.{Picture}
 use Rattle.host_model.specs.State.{HostState}
-use Rattle.host_model.specs.Calls.{IsSound, Says, IsOfSink, Counted}
+use Rattle.host_model.specs.Calls.{IsSound, Says, IsOfSink}
 use Rattle.host_model.specs.Leaves.{LeavesOnly, Shows, Told, AllSettled}
 use Rattle.host_model.specs.declared.fault.HostFault.{HostFault}
 use Rattle.host_model.specs.declared.fault.HostFault.TheVariants.{Disk, Source, Sink, Memory}
 use Rattle.host_model.specs.declared.fault.Stop.{Stop}
-use Rattle.host_model.specs.declared.fault.Stop.TheVariants.{Host, Damaged, Full, NoMemory}
+use Rattle.host_model.specs.declared.fault.Stop.TheVariants.{Host, NoMemory}
 use Rattle.host_model.proofs.CallsLemmas.{keeps-then, counted-then, still_faithful, still_honest, was_faithful}
 use Rattle.host_model.proofs.LeavesLemmas.{leaves_weaker, leaves_then, says_leave, rests_after_say}
 use Rattle.node_store.specs.Image.{IsStored}
 use Rattle.script_words.specs.declared.line.Line.{Line}
 use Rattle.script_words.specs.declared.reply.Answer.{Answer}
 use Rattle.script_words.specs.Replies.{reply_of}
-use Rattle.table_store.specs.Tables.{Tables}
 use Rattle.table_store.specs.Kept.{IsKept}
 use Rattle.table_store.specs.StoreValue.{StoreValue}
-use Rattle.shell.specs.Serving.{answer_to, spelled, tables_after, entries_of, reply_to}
-use Rattle.shell.specs.LineServed.{IsSure, IsBefore, IsBehind, IsLinePicture, DidNothing, IsInDoubt, IsUnreported, LineHalts, LineStops, DoesLine, ServesLine}
+use Rattle.shell.specs.Serving.{spelled, tables_after, reply_to}
+use Rattle.shell.specs.LineServed.{IsLinePicture, IsReplyStop, DoesLine, ServesLine}
+use Rattle.shell.proofs.WalkLemmas.{steps-tables}
 
 module _ (number : ℕ) (line : Line) (old new : StoreValue) (before mid : HostState) where
   -- nothing of the reply was said
@@ -38,7 +38,7 @@ module _ (number : ℕ) (line : Line) (old new : StoreValue) (before mid : HostS
     running = tt;
     sure = tt;
     doubt = tt;
-    tables = tt;
+    steps = tt;
     history = tt;
     said = λ f. tt;
     halts = λ f. ⊎_elim (λ none. inl none) (λ doubt. inr (inl doubt)) (does.halts f);
@@ -55,7 +55,7 @@ module _ (number : ℕ) (line : Line) (old new : StoreValue) (before mid : HostS
     running = does.running;
     sure = does.sure;
     doubt = does.doubt;
-    tables = does.tables;
+    steps = does.steps;
     history = does.history;
     said = λ f. does.quiet.said f ∙ sym (append-nil before.said) ∙ ap (λ (a : Option Answer). before.said ++ spelled number a) does.answer;
     halts = λ f. tt;
@@ -66,7 +66,7 @@ module _ (number : ℕ) (line : Line) (old new : StoreValue) (before mid : HostS
 
   module _ (answer : Answer) (does : DoesLine number line (Ok (Some answer)) old new before mid) where
     after_kept : IsTrue before.is_faithful → IsKept mid.files (tables_after line old.tables)
-    after_kept f = subst (λ t. IsKept mid.files t) does.tables (does.sure.kept (still_faithful does.quiet.keeps f))
+    after_kept f = subst (λ t. IsKept mid.files t) (steps-tables line _ _ does.steps) (does.sure.kept (still_faithful does.quiet.keeps f))
 
     -- there was no memory for the reply
     pub unspelled : (T : Type 0) → ServesLine number line {T = T} (Err NoMemory) old new before mid
@@ -76,11 +76,11 @@ module _ (number : ℕ) (line : Line) (old new : StoreValue) (before mid : HostS
       running = tt;
       sure = tt;
       doubt = tt;
-      tables = tt;
+      steps = tt;
       history = tt;
       said = λ f. tt;
-      halts = λ f. inr (inr (record { history = does.history; doubt = does.doubt; count = 0; said = does.quiet.said f ∙ sym (append-nil before.said); kept = after_kept f }));
-      stops = does.doubt;
+      halts = λ f. inr (inr (record { why = tt; steps = does.steps; history = does.history; doubt = does.doubt; count = 0; said = does.quiet.said f ∙ sym (append-nil before.said); kept = after_kept f }));
+      stops = tt;
       leaves = λ h rests. leaves_weaker (does.leaves h rests) silent;
       rests = λ h rests. tt;
     }
@@ -110,7 +110,7 @@ module _ (number : ℕ) (line : Line) (old new : StoreValue) (before mid : HostS
           kept = λ f. let at = was_faithful says.keeps f in subst (λ i. IsKept i new.tables) (sym (says.same at).0) (does.sure.kept at);
         };
         doubt = does.doubt;
-        tables = does.tables;
+        steps = does.steps;
         history = does.history;
         said = λ f. says.done (still_faithful does.quiet.keeps f) ∙ ap (λ l. l ++ reply) (does.quiet.said f) ∙ ap (λ l. before.said ++ l) reply_is;
         halts = λ f. tt;
@@ -119,11 +119,11 @@ module _ (number : ℕ) (line : Line) (old new : StoreValue) (before mid : HostS
         rests = λ h rests. rests_after_say (still_honest does.quiet.keeps h) (still_faithful does.quiet.keeps (sound.faithful h)) says (does.rests h rests);
       }
 
-      sink_stops : (fault : HostFault) → IsOfSink fault → Counted fault mid.faults now.faults → LineStops (Host fault) new before now
-      sink_stops Disk of counted = absurd of
-      sink_stops Source of counted = absurd of
-      sink_stops Sink of counted = (counted-then Sink before.faults mid.faults now.faults does.quiet.keeps.counts counted, does.doubt)
-      sink_stops Memory of counted = counted-then Memory before.faults mid.faults now.faults does.quiet.keeps.counts counted
+      replying : (fault : HostFault) → IsOfSink fault → IsReplyStop (Host fault)
+      replying Disk of = of
+      replying Source of = of
+      replying Sink of = tt
+      replying Memory of = tt
 
       pub unsaid : {T U : Type 0} (fault : HostFault) → Says reply {T = T} (Err fault) mid now → ServesLine number line {T = U} (Err (Host fault)) old new before now
       unsaid fault says = record {
@@ -132,20 +132,22 @@ module _ (number : ℕ) (line : Line) (old new : StoreValue) (before mid : HostS
         running = tt;
         sure = tt;
         doubt = tt;
-        tables = tt;
+        steps = tt;
         history = tt;
         said = λ f. tt;
         halts = λ f.
             let at = still_faithful does.quiet.keeps f in
             let tried = says.tried at in
             inr (inr (record {
+              why = replying fault says.counted.0;
+              steps = does.steps;
               history = does.history;
               doubt = does.doubt;
               count = tried.count;
               said = tried.said ∙ ap (λ l. l ++ take tried.count reply) (does.quiet.said f) ∙ ap (λ l. before.said ++ take tried.count l) reply_is;
               kept = subst (λ i. IsKept i (tables_after line old.tables)) (sym (says.same at).0) (after_kept f);
             }));
-        stops = sink_stops fault says.counted.0 says.counted.1;
+        stops = counted-then fault before.faults mid.faults now.faults does.quiet.keeps.counts says.counted.1;
         leaves = all_leaves says;
         rests = λ h rests. tt;
       }

@@ -1,5 +1,5 @@
 -- One line more is heard and served.
-use Rattle.std.proofs.Common.{◌≡◌, ◌⊎◌, inl, inr, ⊎_elim, ℕ, ◌+◌, ◌<◌, ◌≤◌, List, [], ◌∷◌, ◌++◌, length, take, drop, map, false, Result, Ok, Err, IsTrue, refl, sym, ◌∙◌, ap, subst, arith, append_assoc, length-append, length-take}
+use Rattle.std.proofs.Common.{◌≡◌, inl, inr, ℕ, ◌+◌, ◌≤◌, List, ◌∷◌, ◌++◌, length, take, drop, Some, slice_get, Result, Ok, IsTrue, sym, ◌∙◌, ap, subst, arith, append_assoc, length-append, length-take}
 use Rattle.host_model.specs.Picture.{Picture}
 use Rattle.host_model.specs.State.{HostState, picture_now}
 use Rattle.host_model.specs.Calls.{IsSound, Keeps}
@@ -7,19 +7,23 @@ use Rattle.host_model.specs.Leaves.{LeavesOnly, AllSettled}
 use Rattle.host_model.specs.declared.fault.Stop.{Stop}
 use Rattle.host_model.proofs.CallsLemmas.{keeps-then, still_faithful, still_honest, was_faithful}
 use Rattle.host_model.proofs.LeavesLemmas.{leaves_weaker, leaves_then, same_leave, rests_after_same}
-use Rattle.script_source.specs.Script.{ScriptLine, lines_of, text_of}
-use Rattle.script_source.specs.Hearing.{Listens, TakesLine, max_line}
+use Rattle.script_source.specs.Script.{lines_of, text_of}
+use Rattle.script_source.specs.Hearing.{Listens, TakesLine}
 use Rattle.script_words.specs.Lines.{line_of}
 use Rattle.table_store.specs.Tables.{Tables}
 use Rattle.table_store.specs.Kept.{IsKept}
-use Rattle.table_store.specs.StoreValue.{StoreValue}
-use Rattle.table_store.specs.declared.operation.Entry.{Entry}
+use Rattle.table_store.specs.Room.{Station}
+use Rattle.table_store.specs.StoreValue.{StoreValue, station_of}
+use Rattle.plain_model.specs.declared.operation.Entry.{Entry}
 use Rattle.node_store.specs.Image.{IsStored}
 use Rattle.shell.specs.Serving.{tables_after, entries_of, reply_to, entries_over}
 use Rattle.shell.specs.Script.{texts_of, max_lines, AreWithin}
-use Rattle.shell.specs.LineServed.{IsSure, IsBefore, IsBehind, IsLinePicture, ServesLine}
-use Rattle.shell.specs.ScriptServed.{tables_at, replies_at, IsScriptPicture, HasServed}
-use Rattle.shell.proofs.ScriptLemmas.{tables_more, replies_more, entries_more, within_more, at_line}
+use Rattle.shell.specs.LineServed.{IsSure, IsLinePicture, ServesLine}
+use Rattle.shell.specs.Walk.{Steps, Walks}
+use Rattle.shell.specs.ScriptServed.{tables_at, replies_at}
+use Rattle.shell.specs.Serve.{IsScriptPicture, HasServed}
+use Rattle.shell.proofs.WalkLemmas.{walks-tables}
+use Rattle.shell.proofs.ScriptLemmas.{tables_more, replies_more, entries_more, walks_more, text_here, within_more, at_line}
 
 -- what a hearing leaves as it was
 pub sure_after : {store : StoreValue} {now mid : HostState} → Listens now mid → IsSure store now → IsSure store mid
@@ -28,7 +32,14 @@ sure_after {store} {now} {mid} listens sure = record {
   kept = λ f. let at = was_faithful listens.keeps f in subst (λ i. IsKept i store.tables) (sym (listens.same at).0) (sure.kept at);
 }
 
-module _ {first : HostState} {tables : Tables} {n : ℕ} {pending : List ℕ} {store : StoreValue} {now : HostState} (sound : IsSound first) (sound_now : IsSound now) (served : HasServed first tables n pending store now) where
+module _ {first : HostState} {start : Station} {n : ℕ} {pending : List ℕ} {store : StoreValue} {now : HostState} (sound : IsSound first) (sound_now : IsSound now) (served : HasServed first start n pending store now) where
+  abbrev tables : Tables
+  tables = start.tables
+
+  -- the store's tables are those after the lines
+  pub tables_are : IsTrue first.is_faithful → store.tables ≡ tables_at n (texts_of first.script) tables
+  tables_are f = walks-tables (take n (texts_of first.script)) start (station_of store) (served.walks f)
+
   -- the picture between two lines
   pub between : IsTrue first.is_honest → IsScriptPicture tables (texts_of first.script) n first.said (picture_now now)
   between h =
@@ -36,7 +47,7 @@ module _ {first : HostState} {tables : Tables} {n : ℕ} {pending : List ℕ} {s
       record {
         done = n;
         within = omega arith;
-        kept = subst (λ t. IsKept now.files t) (served.tables_are f) (served.sure.kept (still_faithful served.keeps f));
+        kept = subst (λ t. IsKept now.files t) (tables_are f) (served.sure.kept (still_faithful served.keeps f));
         quiet = omega (arith, ap length (served.said f), length-append first.said (replies_at n (texts_of first.script) tables));
       }
 
@@ -66,7 +77,7 @@ module _ {first : HostState} {tables : Tables} {n : ℕ} {pending : List ℕ} {s
       pub tables_next : (f : IsTrue first.is_faithful) → tables_after (line_of text) store.tables ≡ tables_at (n + 1) (texts_of first.script) tables
       tables_next f =
           let t = takes (still_faithful served.keeps f) in
-          ap (λ (x : List ℕ). tables_after (line_of x) store.tables) t.text_is ∙ ap (λ (x : Tables). tables_after (line_of (text_of t.line)) x) (served.tables_are f)
+          ap (λ (x : List ℕ). tables_after (line_of x) store.tables) t.text_is ∙ ap (λ (x : Tables). tables_after (line_of (text_of t.line)) x) (tables_are f)
           ∙ sym (tables_more (lines_of first.script) n t.line (lines_of rest) (here f) tables)
 
       pub replies_next : (f : IsTrue first.is_faithful) → replies_at n (texts_of first.script) tables ++ reply_to number (line_of text) store.tables ≡ replies_at (n + 1) (texts_of first.script) tables
@@ -74,7 +85,7 @@ module _ {first : HostState} {tables : Tables} {n : ℕ} {pending : List ℕ} {s
           let t = takes (still_faithful served.keeps f) in
           ap (λ (m : ℕ). replies_at n (texts_of first.script) tables ++ reply_to m (line_of text) store.tables) number_is
           ∙ ap (λ (x : List ℕ). replies_at n (texts_of first.script) tables ++ reply_to (n + 1) (line_of x) store.tables) t.text_is
-          ∙ ap (λ (x : Tables). replies_at n (texts_of first.script) tables ++ reply_to (n + 1) (line_of (text_of t.line)) x) (served.tables_are f)
+          ∙ ap (λ (x : Tables). replies_at n (texts_of first.script) tables ++ reply_to (n + 1) (line_of (text_of t.line)) x) (tables_are f)
           ∙ sym (replies_more (lines_of first.script) n t.line (lines_of rest) (here f) tables)
 
       pub entries_next : (f : IsTrue first.is_faithful) → store.history ++ entries_of number (line_of text) store.tables ≡ entries_over 1 (take (n + 1) (texts_of first.script)) tables
@@ -82,9 +93,19 @@ module _ {first : HostState} {tables : Tables} {n : ℕ} {pending : List ℕ} {s
           let t = takes (still_faithful served.keeps f) in
           ap (λ (m : ℕ). store.history ++ entries_of m (line_of text) store.tables) number_is
           ∙ ap (λ (x : List ℕ). store.history ++ entries_of (n + 1) (line_of x) store.tables) t.text_is
-          ∙ ap (λ (x : Tables). store.history ++ entries_of (n + 1) (line_of (text_of t.line)) x) (served.tables_are f)
+          ∙ ap (λ (x : Tables). store.history ++ entries_of (n + 1) (line_of (text_of t.line)) x) (tables_are f)
           ∙ ap (λ (l : List Entry). l ++ entries_of (n + 1) (line_of (text_of t.line)) (tables_at n (texts_of first.script) tables)) (served.history f)
           ∙ sym (entries_more (lines_of first.script) n t.line (lines_of rest) (here f) tables)
+
+      pub walks_next : (f : IsTrue first.is_faithful) (last : Station) → Steps (line_of text) (station_of store) last → Walks (take (n + 1) (texts_of first.script)) start last
+      walks_next f last steps =
+          let t = takes (still_faithful served.keeps f) in
+          walks_more (lines_of first.script) n t.line (lines_of rest) (here f) tables start (station_of store) last (served.walks f) (subst (λ (x : List ℕ). Steps (line_of x) (station_of store) last) t.text_is steps)
+
+      pub text_next : (f : IsTrue first.is_faithful) → slice_get (texts_of first.script) n ≡ Some text
+      text_next f =
+          let t = takes (still_faithful served.keeps f) in
+          text_here (lines_of first.script) n t.line (lines_of rest) (here f) tables ∙ ap Some (sym t.text_is)
 
       pub within_next : (f : IsTrue first.is_faithful) → AreWithin (lines_of first.script) (n + 1)
       within_next f =
@@ -105,7 +126,7 @@ module _ {first : HostState} {tables : Tables} {n : ℕ} {pending : List ℕ} {s
               record {
                 done = n;
                 within = omega arith;
-                kept = subst (λ t. IsKept p.image t) (served.tables_are f) before.kept;
+                kept = subst (λ t. IsKept p.image t) (tables_are f) before.kept;
                 quiet = omega (arith, ap length (before.said_is ∙ mid_said f), length-append first.said (replies_at n (texts_of first.script) tables));
               }
           shown p (inr behind) =
@@ -121,7 +142,7 @@ module _ {first : HostState} {tables : Tables} {n : ℕ} {pending : List ℕ} {s
 
   -- one line more is served to its end
   pub served_more : {mid : HostState} {text pending' : List ℕ} (listens : Listens now mid) → IsSound mid → (takes : IsTrue now.is_faithful → TakesLine (pending ++ now.script) text (pending' ++ mid.script)) → (number : ℕ) → number ≡ n + 1 → n + 1 ≤ max_lines
-      → {T : Type 0} {u : T} {store' : StoreValue} {later : HostState} → ServesLine number (line_of text) {T = T} (Ok u) store store' mid later → HasServed first tables (n + 1) pending' store' later
+      → {T : Type 0} {u : T} {store' : StoreValue} {later : HostState} → ServesLine number (line_of text) {T = T} (Ok u) store store' mid later → HasServed first start (n + 1) pending' store' later
   served_more {mid} {text} {pending'} listens sound_mid takes number number_is few {store' = store'} {later = later} serves = record {
     keeps = keeps-then served.keeps (keeps-then listens.keeps serves.keeps);
     running = serves.running;
@@ -132,7 +153,7 @@ module _ {first : HostState} {tables : Tables} {n : ℕ} {pending : List ℕ} {s
         let t = takes (still_faithful served.keeps f) in
         ap (λ l. lines_of (pending' ++ l)) (serves.script (still_faithful listens.keeps (still_faithful served.keeps f)))
         ∙ sym (at_line (lines_of first.script) n t.line (lines_of (pending' ++ mid.script)) (here listens sound_mid takes f) tables).back;
-    tables_are = λ f. serves.tables ∙ tables_next listens sound_mid takes number number_is few serves f;
+    walks = λ f. walks_next listens sound_mid takes number number_is few serves f (station_of store') serves.steps;
     history = λ f. serves.history ∙ entries_next listens sound_mid takes number number_is few serves f;
     said = λ f.
         let reply = reply_to number (line_of text) store.tables in

@@ -1,6 +1,11 @@
 pub mod Script
 pub mod Serving
+pub mod Walk
 pub mod LineServed
 pub mod ScriptServed
+pub mod Crash
+pub mod Serve
 pub mod Ending
 pub mod Running
+pub mod Headline
+pub mod Completeness

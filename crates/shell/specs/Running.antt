@@ -1,38 +1,46 @@
--- What a run ensures.
-use Rattle.std.specs.Prelude.{◌≡◌, ◌⊎◌, ℕ, ◌++◌, take, Bool, true, false, List, Result, IfOk, IfErr, OnOk, IsTrue, option_to_list}
+-- What a run does, by how far it came.
+use Rattle.std.specs.Prelude.{◌≡◌, ◌⊎◌, ℕ, ◌++◌, Bool, true, false, List, Result, IfOk, IfErr, OnOk, IsTrue, option_to_list}
 use Rattle.host_model.specs.Picture.{Image, Picture}
 use Rattle.host_model.specs.State.{HostState}
 use Rattle.host_model.specs.Calls.{Keeps, IsQuiet, Looks}
 use Rattle.host_model.specs.Leaves.{LeavesOnly, Shows, AllSettled}
 use Rattle.host_model.specs.declared.fault.Stop.{Stop}
 use Rattle.host_model.specs.declared.fault.Stop.TheVariants.{NoMemory}
+use Rattle.node_store.specs.Image.{IsStored}
 use Rattle.table_store.specs.Tables.{Tables, no_tables}
+use Rattle.table_store.specs.Room.{Station, IsNewStation}
+use Rattle.table_store.specs.Layout.{nodes_name}
 use Rattle.table_store.specs.Kept.{IsKept, IsUnbornDisk}
-use Rattle.table_store.specs.StoreValue.{StoreValue, IsFresh, InitStops, OpenStops}
-use Rattle.table_store.specs.declared.operation.Entry.{Entry}
+use Rattle.table_store.specs.StoreValue.{StoreValue, IsFresh, InitStops, OpenStops, station_of}
 use Rattle.table_store.specs.declared.stop.StoreStop.{StoreStop}
 use Rattle.script_source.specs.Script.{lines_of}
 use Rattle.shell.specs.Script.{texts_of, AreWithin}
-use Rattle.shell.specs.LineServed.{IsSure}
-use Rattle.shell.specs.Serving.{entries_over}
-use Rattle.shell.specs.ScriptServed.{IsLastPicture, HasEnded, ScriptStops}
+use Rattle.shell.specs.LineServed.{IsSure, StopCounts}
+use Rattle.shell.specs.ScriptServed.{entries_at, HasEnded}
+use Rattle.shell.specs.Crash.{IsLastPicture}
 use Rattle.shell.specs.Ending.{status_for, damaged_for, without_store, stopped_with}
 use Rattle.shell.specs.declared.outcomes.Outcome.{Outcome}
 use Rattle.shell.specs.declared.ending.Ending.{Ending}
 
--- the tables with which a run begins: those of the image, or with --init none on an unborn disk
-abbrev pub Begins : Bool → Image → Tables → Type 0
-Begins false image tables = IsKept image tables
-Begins true image tables = IsUnbornDisk image × (tables ≡ no_tables)
+-- the store that an image has
+pub record IsStoreOf (image : Image) (station : Station) : Type 0 where
+  pub stored : IsStored station.nodes image
+  pub file : station.nodes.name ≡ nodes_name
+  pub kept : IsKept image station.tables
 
--- The script was served over these tables, and the status tells how that ended.
-pub record ServesScript (first : HostState) (tables : Tables) (outcome : Outcome) (now : HostState) : Type 0 where
+-- the store with which a run begins: that of the image, or with --init a new one on an unborn disk
+abbrev pub Begins : Bool → Image → Station → Type 0
+Begins false image start = IsStoreOf image start
+Begins true image start = IsUnbornDisk image × IsNewStation start
+
+-- The script was served over this store, and the status tells how that ended.
+pub record ServesScript (first : HostState) (start : Station) (outcome : Outcome) (now : HostState) : Type 0 where
   pub ending : Result Ending Stop
   pub status : outcome.status ≡ status_for ending
   pub damaged : outcome.damaged ≡ damaged_for ending
   pub keeps : Keeps first now
-  pub ended : IsTrue first.is_faithful → HasEnded ending first tables outcome.lines outcome.history (option_to_list outcome.doubt) now
-  pub stops : IfErr ending (λ stop. ScriptStops stop (option_to_list outcome.doubt) first now)
+  pub ended : IsTrue first.is_faithful → HasEnded ending first start outcome.lines outcome.history (option_to_list outcome.doubt) now
+  pub stops : IfErr ending (λ stop. StopCounts stop first now)
   pub rests : IsTrue first.is_honest → AllSettled first → OnOk ending (AllSettled now)
 
 -- the disk is unborn still, and nothing was said
@@ -49,15 +57,15 @@ MayBeLeft true tables texts tried said p = IsUnbegun said p ⊎ IsLastPicture ta
 pub record LeavesLines (init : Bool) (first : HostState) (tables : Tables) (outcome : Outcome) (now : HostState) : Type 0 where
   pub tried : ℕ
   pub within : AreWithin (lines_of first.script) tried
-  pub all : outcome.history ++ option_to_list outcome.doubt ≡ entries_over 1 (take tried (texts_of first.script)) tables
+  pub all : outcome.history ++ option_to_list outcome.doubt ≡ entries_at tried (texts_of first.script) tables
   pub leaves : LeavesOnly (MayBeLeft init tables (texts_of first.script) tried first.said) first now
 
 -- a store was there, or was made, and its script was served
 pub record HasStore (init : Bool) (first : HostState) (outcome : Outcome) (now : HostState) : Type 0 where
-  pub tables : Tables
-  pub begins : IsTrue first.is_faithful → Begins init first.files tables
-  pub serves : ServesScript first tables outcome now
-  pub crash : IsTrue first.is_honest → AllSettled first → LeavesLines init first tables outcome now
+  pub start : Station
+  pub begins : IsTrue first.is_faithful → Begins init first.files start
+  pub serves : ServesScript first start outcome now
+  pub crash : IsTrue first.is_honest → AllSettled first → LeavesLines init first start.tables outcome now
 
 abbrev pub StoreStops : Bool → StoreStop → HostState → HostState → Type 0
 StoreStops false stop first now = OpenStops stop first now
@@ -78,7 +86,7 @@ pub record LeavesDisk (init : Bool) (first now : HostState) : Type 0 where
 pub record OpensStore (init : Bool) (result : Result StoreValue StoreStop) (old new : HostState) : Type 0 where
   pub fresh : IfOk result IsFresh
   pub sure : IfOk result (λ store. IsSure store new)
-  pub begins : IsTrue old.is_faithful → IfOk result (λ store. Begins init old.files store.tables)
+  pub begins : IsTrue old.is_faithful → IfOk result (λ store. Begins init old.files (station_of store))
   pub stops : IfErr result (λ stop. StoreStops init stop old new)
   pub left : LeavesDisk init old new
   pub rests : IsTrue old.is_honest → AllSettled old → OnOk result (AllSettled new)

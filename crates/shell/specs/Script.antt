@@ -1,7 +1,6 @@
 -- A whole script, served line by line.
-use Rattle.std.specs.Prelude.{◌≡◌, ◌⊎◌, ℕ, ◌+◌, ◌<◌, ◌≤◌, List, [], ◌∷◌, ◌++◌, map as mapped, length, take, slice_get, Some}
+use Rattle.std.specs.Prelude.{◌≡◌, ◌⊎◌, ℕ, ◌<◌, ◌≤◌, List, map as mapped, length, take, slice_get, Some}
 use Rattle.std.specs.List.{AllByRecursion}
-use Rattle.host_model.specs.State.{HostState}
 use Rattle.script_source.specs.Script.{ScriptLine, lines_of, text_of}
 use Rattle.script_source.specs.Hearing.{max_line}
 

@@ -1,21 +1,20 @@
--- What the serving of a script does, up to some line.
-use Rattle.std.specs.Prelude.{◌≡◌, ◌⊎◌, ℕ, ◌+◌, ◌<◌, ◌≤◌, List, [], ◌∷◌, ◌++◌, take, drop, length, false, codes, Result, Ok, Err, IfOk, IfErr, OnOk, IsTrue}
+-- How far a script was served, and how that ended.
+use Rattle.std.specs.Prelude.{◌≡◌, ◌⊎◌, ℕ, ◌+◌, List, [], ◌++◌, take, length, slice_get, codes, Some, Result, Ok, Err}
 use Rattle.script_words.specs.Replies.{numbered}
-use Rattle.host_model.specs.Picture.{Picture}
+use Rattle.script_words.specs.Lines.{line_of}
 use Rattle.host_model.specs.State.{HostState}
-use Rattle.host_model.specs.Calls.{Keeps, Counted, IsOfSink}
 use Rattle.host_model.specs.declared.fault.HostFault.TheVariants.{Disk, Source, Sink, Memory}
 use Rattle.host_model.specs.declared.fault.Stop.{Stop}
 use Rattle.host_model.specs.declared.fault.Stop.TheVariants.{Host, Damaged, Full, NoMemory}
-use Rattle.host_model.specs.Leaves.{LeavesOnly, AllSettled}
-use Rattle.script_source.specs.Script.{ScriptLine, lines_of, text_of}
+use Rattle.script_source.specs.Script.{lines_of}
 use Rattle.table_store.specs.Tables.{Tables}
+use Rattle.table_store.specs.Room.{Station}
 use Rattle.table_store.specs.Kept.{IsKept}
-use Rattle.table_store.specs.StoreValue.{StoreValue}
-use Rattle.table_store.specs.declared.operation.Entry.{Entry}
-use Rattle.shell.specs.Serving.{tables_over, replies_over, entries_over}
+use Rattle.plain_model.specs.declared.operation.Entry.{Entry}
+use Rattle.shell.specs.Serving.{tables_over, replies_over, entries_over, entries_of, reply_to}
 use Rattle.shell.specs.Script.{texts_of, AreWithin, IsOver}
-use Rattle.shell.specs.LineServed.{IsSure}
+use Rattle.shell.specs.Walk.{Walks}
+use Rattle.shell.specs.LineServed.{IsEarlyStop, IsCommitStop, IsReplyStop}
 use Rattle.shell.specs.declared.ending.Ending.{Ending}
 use Rattle.shell.specs.declared.ending.Ending.TheVariants.{ScriptEnd, NoLine}
 
@@ -26,114 +25,112 @@ tables_at count texts tables = tables_over (take count texts) tables
 abbrev pub replies_at : ℕ → List (List ℕ) → Tables → List ℕ
 replies_at count texts tables = replies_over 1 (take count texts) tables
 
--- The picture is kept with the tables after some of so many lines, and no more was said than the replies to these.
-pub record IsScriptPicture (tables : Tables) (texts : List (List ℕ)) (count : ℕ) (said : List ℕ) (p : Picture) : Type 0 where
-  pub done : ℕ
-  pub within : done ≤ count
-  pub kept : IsKept p.image (tables_at done texts tables)
-  pub quiet : length p.said ≤ length said + length (replies_at done texts tables)
+abbrev pub entries_at : ℕ → List (List ℕ) → Tables → List Entry
+entries_at count texts tables = entries_over 1 (take count texts) tables
 
--- so many lines were served to their ends, and no others
-pub record HasServed (first : HostState) (tables : Tables) (count : ℕ) (pending : List ℕ) (store : StoreValue) (now : HostState) : Type 0 where
-  pub keeps : Keeps first now
-  pub running : store.is_stopped ≡ false
-  pub sure : IsSure store now
-  pub doubt : store.doubt ≡ []
-  pub within : IsTrue first.is_faithful → AreWithin (lines_of first.script) count
-  pub left : IsTrue first.is_faithful → lines_of (pending ++ now.script) ≡ drop count (lines_of first.script)
-  pub tables_are : IsTrue first.is_faithful → store.tables ≡ tables_at count (texts_of first.script) tables
-  pub history : IsTrue first.is_faithful → store.history ≡ entries_over 1 (take count (texts_of first.script)) tables
-  pub said : IsTrue first.is_faithful → now.said ≡ first.said ++ replies_at count (texts_of first.script) tables
-  pub leaves : IsTrue first.is_honest → AllSettled first → LeavesOnly (IsScriptPicture tables (texts_of first.script) count first.said) first now
-  pub rests : IsTrue first.is_honest → AllSettled first → AllSettled now
+-- So many lines did their work: their entries are the history, and their tables are there.
+pub record HasDone (first : HostState) (start : Station) (count : ℕ) (past : List Entry) (now : HostState) : Type 0 where
+  pub within : AreWithin (lines_of first.script) count
+  pub station : Station
+  pub walks : Walks (take count (texts_of first.script)) start station
+  pub history : past ≡ entries_at count (texts_of first.script) start.tables
+  pub kept : IsKept now.files (tables_at count (texts_of first.script) start.tables)
 
--- As before, but of the last of these lines no reply need be missing: nothing is tried behind it.
-pub record IsLastPicture (tables : Tables) (texts : List (List ℕ)) (tried : ℕ) (said : List ℕ) (p : Picture) : Type 0 where
-  pub done : ℕ
-  pub within : done ≤ tried
-  pub kept : IsKept p.image (tables_at done texts tables)
-  pub quiet : (done ≡ tried) ⊎ (length p.said ≤ length said + length (replies_at done texts tables))
+-- the replies to so many lines were said, and no more
+abbrev pub HasReplied : HostState → Tables → ℕ → HostState → Type 0
+HasReplied first tables count now = now.said ≡ first.said ++ replies_at count (texts_of first.script) tables
 
--- the reply that comes next: to the line behind so many, or that there is no such line
-abbrev pub IsNextReply : ℕ → List (List ℕ) → Tables → List ℕ → Type 0
-IsNextReply count texts tables reply = (replies_at (count + 1) texts tables ≡ replies_at count texts tables ++ reply) ⊎ (reply ≡ numbered (count + 1) (codes "no line"))
+-- and then these bytes
+abbrev pub HasSaid : HostState → Tables → ℕ → List ℕ → HostState → Type 0
+HasSaid first tables count more now = now.said ≡ first.said ++ replies_at count (texts_of first.script) tables ++ more
 
--- How a script was left, over a faithful host: so many lines have committed, and one more may have where its entry is in doubt.
-pub record HasRun (first : HostState) (tables : Tables) (lines : ℕ) (past maybe : List Entry) (now : HostState) : Type 0 where
-  pub committed : ℕ
-  pub tried : ℕ
-  pub order : ((tried ≡ committed) × (maybe ≡ [])) ⊎ ((tried ≡ committed + 1) × (now.said ≡ first.said ++ replies_at committed (texts_of first.script) tables))
-  pub within : AreWithin (lines_of first.script) tried
-  pub heard : (tried ≤ lines) × (lines ≤ committed + 1)
-  pub history : past ≡ entries_over 1 (take committed (texts_of first.script)) tables
-  pub all : past ++ maybe ≡ entries_over 1 (take tried (texts_of first.script)) tables
-  pub kept : IsKept now.files (tables_at committed (texts_of first.script) tables) ⊎ IsKept now.files (tables_at tried (texts_of first.script) tables)
-  -- the lines whose replies were said whole, and how much of the next reply was
-  pub answered : ℕ
-  pub answers : (answered ≡ committed) ⊎ (answered + 1 ≡ committed)
-  pub next : List ℕ
-  pub next_is : IsNextReply answered (texts_of first.script) tables next
-  pub count : ℕ
-  pub said : now.said ≡ first.said ++ replies_at answered (texts_of first.script) tables ++ take count next
+-- the last line that was heard, and how many stand before it
+pub record LastLine (first : HostState) (lines : ℕ) : Type 0 where
+  pub before : ℕ
+  pub lines_are : lines ≡ before + 1
+  pub within : AreWithin (lines_of first.script) lines
+  pub text : List ℕ
+  pub is : slice_get (texts_of first.script) before ≡ Some text
+
+-- ---- the script came to an end
 
 -- the whole script was served
-pub record HasServedAll (first : HostState) (tables : Tables) (lines : ℕ) (past maybe : List Entry) (now : HostState) : Type 0 where
+pub record HasServedAll (first : HostState) (start : Station) (lines : ℕ) (past maybe : List Entry) (now : HostState) : Type 0 where
   pub all : lines ≡ length (lines_of first.script)
-  pub within : AreWithin (lines_of first.script) lines
   pub heard : now.script ≡ []
-  pub history : past ≡ entries_over 1 (texts_of first.script) tables
+  pub done : HasDone first start lines past now
   pub doubt : maybe ≡ []
-  pub said : now.said ≡ first.said ++ replies_over 1 (texts_of first.script) tables
-  pub kept : IsKept now.files (tables_over (texts_of first.script) tables)
+  pub said : HasReplied first start.tables lines now
+
+-- the lines before the last were served, and it is too long or one too many: of the reply to it these bytes were said
+pub record HasRefused (first : HostState) (start : Station) (lines : ℕ) (past maybe : List Entry) (front : List ℕ) (now : HostState) : Type 0 where
+  pub before : ℕ
+  pub lines_are : lines ≡ before + 1
+  pub over : IsOver (lines_of first.script) before
+  pub done : HasDone first start before past now
+  pub doubt : maybe ≡ []
+  pub said : HasSaid first start.tables before front now
 
 -- the script was served up to a line that is too long, or one too many
-pub record HasRefusedLine (first : HostState) (tables : Tables) (lines : ℕ) (past maybe : List Entry) (now : HostState) : Type 0 where
-  pub served : ℕ
-  pub lines_are : lines ≡ served + 1
-  pub within : AreWithin (lines_of first.script) served
-  pub over : IsOver (lines_of first.script) served
-  pub history : past ≡ entries_over 1 (take served (texts_of first.script)) tables
+abbrev pub HasRefusedLine : HostState → Station → ℕ → List Entry → List Entry → HostState → Type 0
+HasRefusedLine first start lines past maybe now = HasRefused first start lines past maybe (numbered lines (codes "no line")) now
+
+-- ---- a stop fell into it
+
+abbrev pub IsHearingStop : Stop → Type 0
+IsHearingStop (Host Disk) = ⊥
+IsHearingStop (Host Source) = Unit {0}
+IsHearingStop (Host Sink) = ⊥
+IsHearingStop (Host Memory) = Unit {0}
+IsHearingStop (Damaged name) = ⊥
+IsHearingStop Full = ⊥
+IsHearingStop NoMemory = Unit {0}
+
+-- no further line was heard
+pub record StopsHearing (stop : Stop) (first : HostState) (start : Station) (lines : ℕ) (past maybe : List Entry) (now : HostState) : Type 0 where
+  pub why : IsHearingStop stop
+  pub done : HasDone first start lines past now
   pub doubt : maybe ≡ []
-  pub said : now.said ≡ first.said ++ replies_at served (texts_of first.script) tables ++ numbered lines (codes "no line")
-  pub kept : IsKept now.files (tables_at served (texts_of first.script) tables)
+  pub said : HasReplied first start.tables lines now
+
+-- that there is no such line wasn't said whole
+pub record StopsRefusing (stop : Stop) (first : HostState) (start : Station) (lines : ℕ) (past maybe : List Entry) (now : HostState) : Type 0 where
+  pub why : IsReplyStop stop
+  pub count : ℕ
+  pub refused : HasRefused first start lines past maybe (take count (numbered lines (codes "no line"))) now
+
+-- the last line did nothing
+pub record StopsBefore (stop : Stop) (first : HostState) (start : Station) (lines : ℕ) (past maybe : List Entry) (now : HostState) : Type 0 where
+  pub last : LastLine first lines
+  pub done : HasDone first start last.before past now
+  pub why : IsEarlyStop stop (line_of last.text) done.station
+  pub doubt : maybe ≡ []
+  pub said : HasReplied first start.tables last.before now
+
+-- its commit may have been made: its entry is in doubt
+pub record StopsInside (stop : Stop) (first : HostState) (start : Station) (lines : ℕ) (past maybe : List Entry) (now : HostState) : Type 0 where
+  pub why : IsCommitStop stop
+  pub last : LastLine first lines
+  pub history : past ≡ entries_at last.before (texts_of first.script) start.tables
+  pub doubt : maybe ≡ entries_of lines (line_of last.text) (tables_at last.before (texts_of first.script) start.tables)
+  pub kept : IsKept now.files (tables_at last.before (texts_of first.script) start.tables) ⊎ IsKept now.files (tables_at lines (texts_of first.script) start.tables)
+  pub said : HasReplied first start.tables last.before now
+
+-- it did its work, and its reply wasn't said whole
+pub record StopsBehind (stop : Stop) (first : HostState) (start : Station) (lines : ℕ) (past maybe : List Entry) (now : HostState) : Type 0 where
+  pub why : IsReplyStop stop
+  pub last : LastLine first lines
+  pub done : HasDone first start lines past now
+  pub doubt : maybe ≡ []
+  pub count : ℕ
+  pub said : HasSaid first start.tables last.before (take count (reply_to lines (line_of last.text) (tables_at last.before (texts_of first.script) start.tables))) now
+
+abbrev pub HasStopped : Stop → HostState → Station → ℕ → List Entry → List Entry → HostState → Type 0
+HasStopped stop first start lines past maybe now =
+    StopsHearing stop first start lines past maybe now ⊎ StopsRefusing stop first start lines past maybe now ⊎ StopsBefore stop first start lines past maybe now ⊎ StopsInside stop first start lines past maybe now ⊎ StopsBehind stop first start lines past maybe now
 
 -- how the serving of a script ended
-abbrev pub HasEnded : Result Ending Stop → HostState → Tables → ℕ → List Entry → List Entry → HostState → Type 0
+abbrev pub HasEnded : Result Ending Stop → HostState → Station → ℕ → List Entry → List Entry → HostState → Type 0
 HasEnded (Ok ScriptEnd) = HasServedAll
 HasEnded (Ok NoLine) = HasRefusedLine
-HasEnded (Err stop) = HasRun
-
--- Each crash since the first moment leaves the tables after some of these lines, which are all that gave the history and what is in doubt.
-pub record LeavesFronts (first : HostState) (tables : Tables) (past maybe : List Entry) (now : HostState) : Type 0 where
-  pub tried : ℕ
-  pub within : AreWithin (lines_of first.script) tried
-  pub all : past ++ maybe ≡ entries_over 1 (take tried (texts_of first.script)) tables
-  pub leaves : LeavesOnly (IsLastPicture tables (texts_of first.script) tried first.said) first now
-
--- Why a script wasn't served to its end. Only a fault of the disk, or of the host's memory, leaves a commit in doubt.
-abbrev pub ScriptStops : Stop → List Entry → HostState → HostState → Type 0
-ScriptStops (Host Disk) maybe first now = Counted Disk first.faults now.faults
-ScriptStops (Host Memory) maybe first now = Counted Memory first.faults now.faults
-ScriptStops (Host Source) maybe first now = Counted Source first.faults now.faults × (maybe ≡ [])
-ScriptStops (Host Sink) maybe first now = Counted Sink first.faults now.faults × (maybe ≡ [])
-ScriptStops (Damaged name) maybe first now = ⊥
-ScriptStops Full maybe first now = maybe ≡ []
-ScriptStops NoMemory maybe first now = maybe ≡ []
-
--- why it wasn't said
-abbrev pub RefusalStops : Stop → HostState → HostState → Type 0
-RefusalStops (Host fault) before now = IsOfSink fault × Counted fault before.faults now.faults
-RefusalStops (Damaged name) before now = ⊥
-RefusalStops Full before now = ⊥
-RefusalStops NoMemory before now = Unit {0}
-
--- `no line` is said, or a front of it, or there was no memory for it
-pub record RefusesLine (number : ℕ) (result : Result Ending Stop) (before now : HostState) : Type 0 where
-  pub keeps : Keeps before now
-  pub same : IsTrue before.is_faithful → (now.files ≡ before.files) × (now.script ≡ before.script)
-  pub done : IfOk result (λ ending. ending ≡ NoLine)
-  pub said : IsTrue before.is_faithful → OnOk result (now.said ≡ before.said ++ numbered number (codes "no line"))
-  pub tried : IsTrue before.is_faithful → (count : ℕ) × (now.said ≡ before.said ++ take count (numbered number (codes "no line")))
-  pub stops : IfErr result (λ stop. RefusalStops stop before now)
-  pub leaves : IsTrue before.is_honest → AllSettled before → LeavesOnly (λ p. p.image ≡ before.files) before now
-  pub rests : IsTrue before.is_honest → AllSettled before → AllSettled now
+HasEnded (Err stop) = HasStopped stop

@@ -9,7 +9,7 @@ use Rattle.script_words.specs.declared.reply.Answer.TheVariants.{Ok, Rows, Refus
 use Rattle.script_words.specs.declared.reply.Refusal.TheVariants.{Exists, Unbuilt as NotBuilt}
 use Rattle.table_store.specs.Tables.{Tables, created, is_taken, table_texts}
 use Rattle.table_store.specs.StoreValue.{entry_of}
-use Rattle.table_store.specs.declared.operation.Entry.{Entry}
+use Rattle.plain_model.specs.declared.operation.Entry.{Entry}
 
 -- what a line is answered; a blank one isn't
 abbrev pub answer_to : Line → Tables → Option Answer

@@ -4,9 +4,10 @@ ghost use Rattle.shell.specs.Ending.{status_for, damaged_for, unbegun, stopped_w
 
 use crate::outcomes::Outcome;
 use host_model::{HostFault, Name, Stop};
+use plain_model::{Entries, Entry};
 use row_keys::ListOf;
 use std::alloc::Global;
-use table_store::{Entries, Entry, StoreStop};
+use table_store::StoreStop;
 
 /// The status where there is no store, or one where a new one was to be made.
 const NO_STORE: u8 = 8;

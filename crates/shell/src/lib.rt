@@ -7,5 +7,5 @@ mod running;
 mod serving;
 
 pub use outcomes::Outcome;
+pub use plain_model::{Entries, Entry, Op, Source};
 pub use running::{dir_of, run};
-pub use table_store::{Entries, Entry, Op, Source};

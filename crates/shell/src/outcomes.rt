@@ -1,6 +1,6 @@
 // How a run ended.
 use host_model::{HostFault, Name, Stop};
-use table_store::{Entries, Entry};
+use plain_model::{Entries, Entry};
 
 /// What a run did.
 ///

@@ -1,14 +1,19 @@
 // A whole run.
-ghost use Rattle.std.specs.Prelude.{◌≡◌, ◌⊎◌, None, [], false, IsTrue, IfOk, IfErr, OnOk, MatchOption, option_to_list};
+ghost use Rattle.std.specs.Prelude.{◌≡◌, ◌⊎◌, None, [], IsTrue, IfOk, IfErr, OnOk, MatchOption, option_to_list};
 ghost use Rattle.script_words.specs.CommandLine.{IsUsage, IsStoreForm};
 ghost use Rattle.script_words.specs.declared.command_line.StoreForm.{StoreForm};
-ghost use Rattle.table_store.specs.StoreValue.{IsFresh};
+ghost use Rattle.table_store.specs.StoreValue.{IsFresh, station_of};
+ghost use Rattle.table_store.specs.Tables.{Tables};
 ghost use Rattle.shell.specs.Ending.{unbegun};
 ghost use Rattle.shell.specs.Running.{OpensStore, ServesScript, RunsStore, HasNoMemory};
 ghost use Rattle.host_model.specs.Calls.{Keeps};
 ghost use Rattle.host_model.specs.Leaves.{AllSettled};
-ghost use Rattle.shell.specs.LineServed.{IsSure};
-ghost use Rattle.shell.specs.ScriptServed.{HasEnded, LeavesFronts, ScriptStops, RefusesLine};
+ghost use Rattle.shell.specs.LineServed.{IsSure, StopCounts};
+ghost use Rattle.shell.specs.ScriptServed.{HasEnded};
+ghost use Rattle.shell.specs.Crash.{LeavesFronts};
+ghost use Rattle.shell.specs.Serve.{RefusesLine};
+ghost use Rattle.shell.specs.Headline.{BeginsWith, Headline, MeetsPlain};
+ghost use Rattle.shell.specs.Completeness.{IsUnhindered, IsDoneOrShort};
 
 use crate::ending::{Ending, ended, stopped, unbegun, without_store};
 use crate::outcomes::Outcome;
@@ -41,6 +46,9 @@ pub fn dir_of(alloc: Global, words: &Words) -> Result<Option<Octets>, AllocError
 pub fn run<H: Host>(alloc: Global, words: &Words, mut host: H) -> (Outcome, H)
     ensures usage { IsUsage words.now → (result.0 ≡ unbegun 2 None) × (result.1 ≡ host) }
     ensures runs { (form : StoreForm) → IsStoreForm words.now form → RunsStore form.init (H.state host) result.0 (H.state result.1) ⊎ HasNoMemory result.0 host result.1 }
+    ensures meets { (form : StoreForm) → IsStoreForm words.now form → IsTrue (H.state host).is_faithful → (tables : Tables) → BeginsWith form.init (H.state host).files tables → MeetsPlain form.init (H.state host) tables result.0 (H.state result.1) }
+    ensures headline { (form : StoreForm) → IsStoreForm words.now form → IsTrue (H.state host).is_honest → AllSettled (H.state host) → (tables : Tables) → BeginsWith form.init (H.state host).files tables → Headline form.init (H.state host) tables result.0 (H.state result.1) }
+    ensures complete { (form : StoreForm) → IsStoreForm words.now form → IsUnhindered form.init (H.state host) (H.state result.1) → IsDoneOrShort result.0.status }
 {
     let outcome = match read_words(alloc, words) {
         Ok(form) => run_store(alloc, form.init, &mut host),
@@ -73,7 +81,7 @@ fn run_store<H: Host>(alloc: Global, init: bool, host: &mut H) -> Outcome
 fn run_script<H: Host>(alloc: Global, mut store: TableStore, host: &mut H) -> Outcome
     requires fresh { IsFresh store }
     requires sure { IsSure store (H.state host.old) }
-    ensures serves { ServesScript (H.state host.old) store.tables result (H.state host.new) }
+    ensures serves { ServesScript (H.state host.old) (station_of store) result (H.state host.new) }
     ensures crash { IsTrue (H.state host.old).is_honest → AllSettled (H.state host.old) → LeavesFronts (H.state host.old) store.tables result.history (option_to_list result.doubt) (H.state host.new) }
 {
     let mut lines = 0;
@@ -89,14 +97,14 @@ fn serve<H: Host>(
     host: &mut H,
     lines: &mut u32,
 ) -> Result<Ending, Stop>
-    requires running { store.old.is_stopped ≡ false }
+    requires running { store.old.stop ≡ None }
     requires doubt { store.old.doubt ≡ [] }
     requires history { store.old.history ≡ [] }
     requires sure { IsSure store.old (H.state host.old) }
     requires lines { lines.old ≡ 0 }
     ensures keeps { Keeps (H.state host.old) (H.state host.new) }
-    ensures ended { IsTrue (H.state host.old).is_faithful → HasEnded result (H.state host.old) store.old.tables lines.new store.new.history store.new.doubt (H.state host.new) }
-    ensures stops { IfErr result (λ stop. ScriptStops stop store.new.doubt (H.state host.old) (H.state host.new)) }
+    ensures ended { IsTrue (H.state host.old).is_faithful → HasEnded result (H.state host.old) (station_of store.old) lines.new store.new.history store.new.doubt (H.state host.new) }
+    ensures stops { IfErr result (λ stop. StopCounts stop (H.state host.old) (H.state host.new)) }
     ensures crash { IsTrue (H.state host.old).is_honest → AllSettled (H.state host.old) → LeavesFronts (H.state host.old) store.old.tables store.new.history store.new.doubt (H.state host.new) }
     ensures rests { IsTrue (H.state host.old).is_honest → AllSettled (H.state host.old) → OnOk result (AllSettled (H.state host.new)) }
 {

@@ -1,5 +1,5 @@
 // One line of a script.
-ghost use Rattle.std.specs.Prelude.{◌≡◌, [], false, IsTrue};
+ghost use Rattle.std.specs.Prelude.{◌≡◌, [], None, IsTrue};
 ghost use Rattle.script_words.specs.Lines.{line_of};
 ghost use Rattle.script_words.specs.declared.line.Line.TheVariants.{CreateTable};
 ghost use Rattle.shell.specs.LineServed.{IsSure, DoesLine, ServesLine};
@@ -18,7 +18,7 @@ pub fn serve_line<H: Host>(
     number: u32,
     text: &[u8],
 ) -> Result<(), Stop>
-    requires running { store.old.is_stopped ≡ false }
+    requires running { store.old.stop ≡ None }
     requires doubt { store.old.doubt ≡ [] }
     requires sure { IsSure store.old (H.state host.old) }
     ensures { ServesLine number (line_of text.now) result store.old store.new (H.state host.old) (H.state host.new) }
@@ -40,7 +40,7 @@ fn answer<H: Host>(
     number: u32,
     line: Line,
 ) -> Result<Option<Answer>, Stop>
-    requires running { store.old.is_stopped ≡ false }
+    requires running { store.old.stop ≡ None }
     requires doubt { store.old.doubt ≡ [] }
     requires sure { IsSure store.old (H.state host.old) }
     ensures { DoesLine number line result store.old store.new (H.state host.old) (H.state host.new) }
@@ -60,7 +60,7 @@ fn create<H: Host>(
     number: u32,
     name: TableName,
 ) -> Result<Option<Answer>, Stop>
-    requires running { store.old.is_stopped ≡ false }
+    requires running { store.old.stop ≡ None }
     requires doubt { store.old.doubt ≡ [] }
     requires sure { IsSure store.old (H.state host.old) }
     ensures { DoesLine number (CreateTable name) result store.old store.new (H.state host.old) (H.state host.new) }

@@ -1,4 +1,3 @@
-use Rattle.std.proofs.Common.{◌≡◌, refl}
 use Rattle.shell.proofs.RunLemmas.{serves_told, fronts_told}
 use Rattle.shell.proofs.running.run_script.Goals as goal
 

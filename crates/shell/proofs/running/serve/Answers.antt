@@ -1,30 +1,29 @@
-use Rattle.std.proofs.Common.{◌≡◌, ◌≤◌, ℕ, ◌+◌, IsTrue, refl, sym, ◌∙◌, ap, subst, arith}
+use Rattle.std.proofs.Common.{◌≡◌, ◌≤◌, ◌+◌, refl, arith}
 use Rattle.std.proofs.lemmas.Result.{err_from_is_err_and, IfErr-weaker}
 use Rattle.host_model.proofs.CallsLemmas.{keeps-then, still_honest, on_ok_of}
-use Rattle.host_model.specs.State.{HostState}
 use Rattle.script_source.proofs.HearingLemmas.{listens-refl}
-use Rattle.shell.specs.ScriptServed.{HasRun}
+use Rattle.host_model.specs.declared.fault.Stop.TheVariants.{NoMemory}
 use Rattle.shell.proofs.ScriptLemmas.{served_start}
 use Rattle.shell.proofs.StepLemmas.{served_more, sure_after, heard_rests}
-use Rattle.shell.proofs.EndLemmas.{fronts, all_served, stopped_hearing, stopped_line, line_fronts, refusal_ended, refusal_fronts, refusal_stops, over_long, over_many}
+use Rattle.shell.proofs.EndLemmas.{fronts, all_served, stopped_hearing, stopped_line, line_fronts, refusal_ended, refusal_fronts, refusal_counts, over_long, over_many}
 use Rattle.shell.proofs.running.serve.Goals as goal
 
 pub returns-in_err-script-clause-ended : goal.returns-in_err-script-clause-ended
 returns-in_err-script-clause-ended g c =
     let p = err_from_is_err_and c.from_residual.result c.from_residual.ensures.1 in
     let sound = g.met.H.Host.sound c.args.host.now in
-    rw p.1 (λ f. rw c.requires.lines (stopped_hearing sound sound (served_start c.args.store.now _ sound c.requires.running c.requires.doubt c.requires.history c.requires.sure) (listens-refl _) f))
+    rw (p.1, p.2) (λ f. rw c.requires.lines (stopped_hearing sound sound (served_start c.args.store.now _ sound c.requires.running c.requires.doubt c.requires.history c.requires.sure) (listens-refl _) NoMemory tt f))
 
 pub returns-in_err-next_line-clause-ended : goal.returns-in_err-next_line-clause-ended
 returns-in_err-next_line-clause-ended g c =
     let p = err_from_is_err_and c.from_residual-in_err-next_line.result c.from_residual-in_err-next_line.ensures.1 in
-    rw p.1 (λ f. stopped_hearing (g.met.H.Host.sound c.args.host.now) (g.met.H.Host.sound c.loop-number.host) c.loop-number.invariant.served c.in_err-next_line.ensures.listens f)
+    rw (p.1, p.2) (λ f. stopped_hearing (g.met.H.Host.sound c.args.host.now) (g.met.H.Host.sound c.loop-number.host) c.loop-number.invariant.served c.in_err-next_line.ensures.listens _ c.in_err-next_line.ensures.stops f)
 
 pub returns-in_err-next_line-clause-crash : goal.returns-in_err-next_line-clause-crash
 returns-in_err-next_line-clause-crash g c = fronts (g.met.H.Host.sound c.args.host.now) (g.met.H.Host.sound c.loop-number.host) c.loop-number.invariant.served c.in_err-next_line.ensures.listens
 
 pub returns-in-End-clause-ended : goal.returns-in-End-clause-ended
-returns-in-End-clause-ended g c = all_served (g.met.H.Host.sound c.args.host.now) (g.met.H.Host.sound c.loop-number.host) c.loop-number.invariant.served _ c.in_ok-next_line.ensures.listens (rw c.in-End.is at c.in_ok-next_line.ensures.takes)
+returns-in-End-clause-ended g c = all_served (g.met.H.Host.sound c.args.host.now) (g.met.H.Host.sound c.loop-number.host) c.loop-number.invariant.served c.in_ok-next_line.ensures.listens _ (rw c.in-End.is at c.in_ok-next_line.ensures.takes)
 
 pub returns-in-End-clause-crash : goal.returns-in-End-clause-crash
 returns-in-End-clause-crash g c = fronts (g.met.H.Host.sound c.args.host.now) (g.met.H.Host.sound c.loop-number.host) c.loop-number.invariant.served c.in_ok-next_line.ensures.listens
@@ -53,7 +52,7 @@ returns-in_err-serve_line-in-Line-clause-ended g c =
     let p = err_from_is_err_and c.from_residual-in_err-serve_line-in-Line.result c.from_residual-in_err-serve_line-in-Line.ensures.1 in
     let takes = rw (c.in-Line.is, ← c.deref.ensures.value) at c.in_ok-next_line.ensures.takes in
     let few : c.loop-number.lines + 1 ≤ 100000 = omega (arith, c.loop-number-test.true, c.loop-number.invariant.next) in
-    rw p.1 (λ f. stopped_line (g.met.H.Host.sound c.args.host.now) (g.met.H.Host.sound c.loop-number.host) c.loop-number.invariant.served c.in_ok-next_line.ensures.listens (g.met.H.Host.sound c.next_line.new.host) takes _ c.loop-number.invariant.next few _ c.in_err-serve_line-in-Line.ensures f)
+    rw (p.1, p.2) (λ f. stopped_line (g.met.H.Host.sound c.args.host.now) (g.met.H.Host.sound c.loop-number.host) c.loop-number.invariant.served c.in_ok-next_line.ensures.listens (g.met.H.Host.sound c.next_line.new.host) takes _ c.loop-number.invariant.next few _ c.in_err-serve_line-in-Line.ensures f)
 
 pub returns-in_err-serve_line-in-Line-clause-crash : goal.returns-in_err-serve_line-in-Line-clause-crash
 returns-in_err-serve_line-in-Line-clause-crash g c =
@@ -73,13 +72,13 @@ loop-number-preserved g c =
 pub returns-in_err-next_line-2-clause-ended : goal.returns-in_err-next_line-2-clause-ended
 returns-in_err-next_line-2-clause-ended g c =
     let p = err_from_is_err_and c.from_residual-in_err-next_line-2.result c.from_residual-in_err-next_line-2.ensures.1 in
-    rw p.1 (λ f. stopped_hearing (g.met.H.Host.sound c.args.host.now) (g.met.H.Host.sound c.loop-number.host) c.loop-number.invariant.served c.in_err-next_line-2.ensures.listens f)
+    rw (p.1, p.2) (λ f. stopped_hearing (g.met.H.Host.sound c.args.host.now) (g.met.H.Host.sound c.loop-number.host) c.loop-number.invariant.served c.in_err-next_line-2.ensures.listens _ c.in_err-next_line-2.ensures.stops f)
 
 pub returns-in_err-next_line-2-clause-crash : goal.returns-in_err-next_line-2-clause-crash
 returns-in_err-next_line-2-clause-crash g c = fronts (g.met.H.Host.sound c.args.host.now) (g.met.H.Host.sound c.loop-number.host) c.loop-number.invariant.served c.in_err-next_line-2.ensures.listens
 
 pub returns-in-End-2-clause-ended : goal.returns-in-End-2-clause-ended
-returns-in-End-2-clause-ended g c = all_served (g.met.H.Host.sound c.args.host.now) (g.met.H.Host.sound c.loop-number.host) c.loop-number.invariant.served _ c.in_ok-next_line-2.ensures.listens (rw c.in-End-2.is at c.in_ok-next_line-2.ensures.takes)
+returns-in-End-2-clause-ended g c = all_served (g.met.H.Host.sound c.args.host.now) (g.met.H.Host.sound c.loop-number.host) c.loop-number.invariant.served c.in_ok-next_line-2.ensures.listens _ (rw c.in-End-2.is at c.in_ok-next_line-2.ensures.takes)
 
 pub returns-in-End-2-clause-crash : goal.returns-in-End-2-clause-crash
 returns-in-End-2-clause-crash g c = fronts (g.met.H.Host.sound c.args.host.now) (g.met.H.Host.sound c.loop-number.host) c.loop-number.invariant.served c.in_ok-next_line-2.ensures.listens
@@ -98,7 +97,7 @@ returns g c =
     record {
       keeps = keeps-then served.keeps (keeps-then listens.keeps refuses.keeps);
       ended = refusal_ended sound now served listens mid 100001 number_is over refuses;
-      stops = IfErr-weaker c.refuse_line-in_default.result _ _ (refusal_stops sound now served listens mid 100001 number_is over refuses) refuses.stops;
+      stops = IfErr-weaker c.refuse_line-in_default.result _ _ (refusal_counts sound now served listens mid 100001 number_is over refuses) refuses.stops;
       crash = refusal_fronts sound now served listens mid 100001 number_is over refuses;
       rests = λ h rests. on_ok_of c.refuse_line-in_default.result (refuses.rests (still_honest listens.keeps (still_honest served.keeps h)) (heard_rests sound now served listens h rests));
     }

@@ -1,6 +1,5 @@
-use Rattle.std.proofs.Common.{◌≡◌, sym, ◌∙◌, ap}
+use Rattle.std.proofs.Common.{◌∙◌}
 use Rattle.std.proofs.lemmas.Result.{err_from_is_err_and}
-use Rattle.script_words.specs.Replies.{reply_of}
 use Rattle.shell.proofs.LineLemmas.{does_stop}
 use Rattle.shell.proofs.ServeLemmas.{stops_first, unspelled, serves_all, unsaid, at_line}
 use Rattle.shell.proofs.serving.serve_line.Goals as goal
