@@ -48,4 +48,6 @@ fn main(rt: HostRuntime) -> ExitCode {
 }
 
 #[cfg(test)]
+mod data_file_tests;
+#[cfg(test)]
 mod tests;

@@ -45,6 +45,13 @@ counted fault Down counts = raised fault counts
 abbrev pub faults_of : FaultCounts → Faults
 faults_of counts = record { disk = counts.disk; source = counts.source; sink = counts.sink; memory = counts.memory }
 
+-- how often a call has failed in this way
+abbrev pub count_of : HostFault → Faults → ℕ
+count_of Disk counts = counts.disk
+count_of Source counts = counts.source
+count_of Sink counts = counts.sink
+count_of Memory counts = counts.memory
+
 -- The call has the next number. Exactly where it doesn't work, this one count rises.
 pub record Plans (fault : HostFault) (turn : Turn) (old new : Plan) : Type 0 where
   pub failing : new.failing ≡ old.failing

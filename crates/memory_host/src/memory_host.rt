@@ -3,6 +3,7 @@ ghost use Rattle.std.specs.Prelude.{◌≡◌, [], IfOk};
 ghost use Rattle.std.specs.FinMap as map;
 ghost use Rattle.memory_host.specs.Crash.{picked};
 ghost use Rattle.memory_host.specs.Memory.{Starts, memory_state};
+ghost use Rattle.memory_host.specs.Plan.{count_of};
 
 use crate::file_map::FileMap;
 use crate::moments::Moments;
@@ -100,6 +101,13 @@ impl MemoryHost {
         ensures { result ≡ self.now.plan.calls }
     {
         self.plan.calls
+    }
+
+    /// How many calls answered this fault.
+    pub fn faults(&self, fault: HostFault) -> u64
+        ensures { result ≡ count_of fault (memory_state self.now).faults }
+    {
+        self.plan.faults.of(fault)
     }
 
     /// The bytes that were said, in time that doesn't grow with them.

@@ -1,7 +1,7 @@
 // Which calls fail, and how many have.
 ghost use Rattle.std.specs.Prelude.{◌≡◌, IfOk};
 ghost use Rattle.host_model.specs.Calls.{NoneFalls};
-ghost use Rattle.memory_host.specs.Plan.{Checks, IsNewPlan, NextFails, Plans, faults_of, raised, turn_of};
+ghost use Rattle.memory_host.specs.Plan.{Checks, IsNewPlan, NextFails, Plans, count_of, faults_of, raised, turn_of};
 
 use host_model::HostFault;
 use std::alloc::{AllocError, Global};
@@ -25,6 +25,18 @@ impl FaultCounts {
             source: 0,
             sink: 0,
             memory: 0,
+        }
+    }
+
+    /// How often a call has failed in this way.
+    pub fn of(&self, fault: HostFault) -> u64
+        ensures { result ≡ count_of fault (faults_of self.now) }
+    {
+        match fault {
+            HostFault::Disk => self.disk,
+            HostFault::Source => self.source,
+            HostFault::Sink => self.sink,
+            HostFault::Memory => self.memory,
         }
     }
 
