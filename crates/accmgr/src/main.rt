@@ -1,6 +1,9 @@
 //! A part of Apache Accumulo's manager, run from a script over one directory.
 #![tactic(auto)]
 
+ghost use Rattle.std.specs.Prelude.{◌≡◌, codes, MatchOption};
+ghost use Rattle.std.specs.Str.{IsUtf8};
+
 mod report;
 
 use host_files::FilesHost;
@@ -26,7 +29,9 @@ fn words(rt: &HostRuntime, alloc: Global) -> Result<Words, AllocError> {
 }
 
 /// The path of the directory, and where none is named that of the current one.
-fn path_of(dir: &Option<Octets>) -> &str {
+fn path_of(dir: &Option<Octets>) -> &str
+    ensures { MatchOption dir.now (result.now ≡ codes ".") (λ name. IsUtf8 name → result.now ≡ name) }
+{
     match dir {
         Some(dir) => str::from_utf8(dir.as_bytes()).unwrap_or("."),
         None => ".",
