@@ -13,7 +13,7 @@ fn survives(alloc: Global, stop: u64, pick: Pick) -> Result<bool, AllocError> {
 #[test]
 fn survives_a_crash_in_each_call(rt: HostRuntime) -> Result<(), Fail> {
     let calls = first(rt.alloc(), &INIT, SCRIPT)?.host.calls();
-    for stop in 1..calls {
+    for stop in 1..=calls {
         for pick in [Pick::Kept, Pick::Lost, Pick::Ones] {
             assert!(rt; survives(rt.alloc(), stop, pick)?, "stopped at call {stop}");
         }
