@@ -7,7 +7,7 @@ use Rattle.std.proofs.lemmas.List.{take_all}
 use Rattle.host_model.specs.Picture.{Image, Same, file_at}
 use Rattle.host_model.proofs.MovesLemmas.{started, goes_on}
 use Rattle.host_model.specs.State.{Faults, HostState}
-use Rattle.host_model.specs.Calls.{NoneFalls, Counted, Keeps, IsQuiet, HasCause, Looks, Asks, IsPart}
+use Rattle.host_model.specs.Calls.{NoneFalls, Counted, Faulted, Keeps, IsQuiet, HasCause, Looks, Asks, IsPart}
 use Rattle.host_model.specs.declared.fault.HostFault.{HostFault}
 use Rattle.host_model.specs.declared.fault.HostFault.TheVariants.{Disk, Source, Sink, Memory}
 
@@ -27,6 +27,10 @@ counted-then Disk a b c falls rose = omega (arith, falls.disk, rose)
 counted-then Source a b c falls rose = omega (arith, falls.source, rose)
 counted-then Sink a b c falls rose = omega (arith, falls.sink, rose)
 counted-then Memory a b c falls rose = omega (arith, falls.memory, rose)
+
+-- a fault of a later part is one of the whole
+pub faulted-then : {fault : HostFault} {a b c : HostState} → Keeps a b → Faulted fault b c → Faulted fault a c
+faulted-then {fault = fault} {a = a} {b = b} {c = c} keeps faulted = record { counted = counted-then fault a.faults b.faults c.faults keeps.counts faulted.counted; last = faulted.last }
 
 pub keeps-refl : (s : HostState) → Keeps s s
 keeps-refl s = record { faithful = refl; honest = refl; counts = none_falls-refl s.faults }
@@ -62,7 +66,7 @@ quiet-then one two = record {
 }
 
 pub cause-then : {T : Type 0} {result : Result T HostFault} {a b c : HostState} → IsQuiet a b → HasCause result b c → HasCause result a c
-cause-then {result = result} {a = a} {b = b} {c = c} quiet cause = record { caused = IfErr-weaker result _ _ (λ fault both. (both.0, counted-then fault a.faults b.faults c.faults quiet.keeps.counts both.1)) cause.caused }
+cause-then {result = result} {a = a} {b = b} {c = c} quiet cause = record { caused = IfErr-weaker result _ _ (λ fault both. (both.0, faulted-then quiet.keeps both.1)) cause.caused }
 
 pub on_ok_of : {T E : Type 0} (result : Result T E) {P : Type 0} → P → OnOk result P
 on_ok_of (Ok x) p = p

@@ -26,6 +26,11 @@ Counted Source old new = Rose old.source new.source
 Counted Sink old new = Rose old.sink new.sink
 Counted Memory old new = Rose old.memory new.memory
 
+-- the fault is counted, and the last call is the one that counted it
+pub record Faulted (fault : HostFault) (old new : HostState) : Type 0 where
+  pub counted : Counted fault old.faults new.faults
+  pub last : Counted fault new.before new.faults
+
 -- a call on files answers these two alone
 abbrev pub IsOfFiles : HostFault → Type 0
 IsOfFiles Disk = Unit {0}
@@ -59,7 +64,7 @@ pub record IsQuiet (old new : HostState) : Type 0 where
 
 -- a fault of a call on files is the disk's or for memory, and is counted
 pub record HasCause {T : Type 0} (result : Result T HostFault) (old new : HostState) : Type 0 where
-  pub caused : IfErr result (λ fault. IsOfFiles fault × Counted fault old.faults new.faults)
+  pub caused : IfErr result (λ fault. IsOfFiles fault × Faulted fault old new)
 
 -- a file with other bytes from this offset on
 abbrev pub overlaid : List ℕ → ℕ → List ℕ → List ℕ
@@ -88,6 +93,7 @@ TearsFile name at n = FileStep name (OnBytes (Torn at n))
 
 pub record Writes (name : List ℕ) (at : ℕ) (bytes : List ℕ) {T : Type 0} (result : Result T HostFault) (old new : HostState) : Type 0 where
   pub quiet : IsQuiet old new
+  pub began : new.before ≡ old.faults
   pub cause : HasCause result old new
   pub done : IsTrue old.is_faithful → OnOk result (ChangesFile name (OnBytes (Puts at bytes)) old.files new.files)
   pub tried : IsTrue old.is_faithful → ChangesFile name (OnBytes (Torn at (length bytes))) old.files new.files
@@ -99,6 +105,7 @@ pub record IsSettled (name : List ℕ) (state : HostState) : Type 0 where
 
 pub record Syncs (name : List ℕ) {T : Type 0} (result : Result T HostFault) (old new : HostState) : Type 0 where
   pub quiet : IsQuiet old new
+  pub began : new.before ≡ old.faults
   pub cause : HasCause result old new
   pub same : IsTrue old.is_faithful → new.files ≡ old.files
   pub moves : IsTrue old.is_honest → Moves Same Same old new
@@ -107,6 +114,7 @@ pub record Syncs (name : List ℕ) {T : Type 0} (result : Result T HostFault) (o
 -- the file is made this one, whole or not at all, and lasting on return
 pub record Replaces (name : List ℕ) (file : Option (List ℕ)) {T : Type 0} (result : Result T HostFault) (old new : HostState) : Type 0 where
   pub quiet : IsQuiet old new
+  pub began : new.before ≡ old.faults
   pub cause : HasCause result old new
   pub done : IsTrue old.is_faithful → OnOk result (ChangesFile name (Becomes file) old.files new.files)
   pub tried : IsTrue old.is_faithful → ChangesFile name (MayBecome file) old.files new.files
@@ -116,6 +124,7 @@ pub record Replaces (name : List ℕ) (file : Option (List ℕ)) {T : Type 0} (r
 -- a call that only asks of the files
 pub record Asks {T : Type 0} (result : Result T HostFault) (old new : HostState) : Type 0 where
   pub quiet : IsQuiet old new
+  pub began : new.before ≡ old.faults
   pub cause : HasCause result old new
   pub same : IsTrue old.is_faithful → new.files ≡ old.files
   pub moves : IsTrue old.is_honest → Moves Same Same old new
@@ -146,7 +155,8 @@ pub record Says (bytes : List ℕ) {T : Type 0} (result : Result T HostFault) (o
   pub done : IsTrue old.is_faithful → OnOk result (new.said ≡ old.said ++ bytes)
   pub tried : IsTrue old.is_faithful → SaysFront bytes (picture_now old) (picture_now new)
   pub moves : IsTrue old.is_honest → Moves (SaysFront bytes) (SaysFront bytes) old new
-  pub counted : IfErr result (λ fault. IsOfSink fault × Counted fault old.faults new.faults)
+  pub began : new.before ≡ old.faults
+  pub counted : IfErr result (λ fault. IsOfSink fault × Faulted fault old new)
 
 -- so many bytes of the script are heard, and some unless it is at its end
 pub record HearsFront (room count : ℕ) (into script rest : List ℕ) : Type 0 where
@@ -162,7 +172,8 @@ pub record Hears (into : List ℕ) (result : Result ℕ HostFault) (old new : Ho
   pub done : IsTrue old.is_faithful → IfOk result (λ count. HearsFront (length into) count into old.script new.script)
   pub failed : IsTrue old.is_faithful → IfErr result (λ _. new.script ≡ old.script)
   pub moves : IsTrue old.is_honest → Moves Same Same old new
-  pub counted : IfErr result (λ fault. IsOfSource fault × Counted fault old.faults new.faults)
+  pub began : new.before ≡ old.faults
+  pub counted : IfErr result (λ fault. IsOfSource fault × Faulted fault old new)
 
 -- what holds of every host
 pub record IsSound (state : HostState) : Type 0 where
@@ -177,7 +188,7 @@ pub record IsSound (state : HostState) : Type 0 where
 
 -- `names` answers these two alone
 abbrev pub NamesCause : Stop → HostState → HostState → Type 0
-NamesCause (Host Disk) old new = Rose old.faults.disk new.faults.disk
+NamesCause (Host Disk) old new = Faulted Disk old new
 NamesCause (Host Source) old new = ⊥
 NamesCause (Host Sink) old new = ⊥
 NamesCause (Host Memory) old new = ⊥
@@ -187,6 +198,7 @@ NamesCause NoMemory old new = Unit {0}
 
 pub record Names (result : Result (Vec (List ℕ) Global) Stop) (old new : HostState) : Type 0 where
   pub quiet : IsQuiet old new
+  pub began : new.before ≡ old.faults
   pub cause : IfErr result (λ stop. NamesCause stop old new)
   pub same : IsTrue old.is_faithful → new.files ≡ old.files
   pub moves : IsTrue old.is_honest → Moves Same Same old new

@@ -16,6 +16,8 @@ pub record HostState : Type 1 where
   -- what is left of the script
   pub script : List ℕ
   pub faults : Faults
+  -- the counts as they stood when the last call began
+  pub before : Faults
   -- the moment, as a number that doesn't fall
   pub moment : ℕ
   -- what a crash at this moment may leave
