@@ -1,5 +1,5 @@
 -- What is counted.
-use Rattle.std.proofs.Common.{◌≡◌, ◌⊎◌, inl, inr, ⊎_elim, ap, subst, arith, true}
+use Rattle.std.proofs.Common.{◌≡◌, ◌⊎◌, inl, inr, ⊎_elim, ap, subst, ◌∙◌, arith, true}
 use Rattle.host_model.specs.Calls.{NoneFalls, Counted}
 use Rattle.host_model.specs.declared.fault.HostFault.{HostFault}
 use Rattle.host_model.specs.declared.fault.HostFault.TheVariants.{Disk, Source, Sink, Memory}
@@ -36,14 +36,22 @@ rose_at_all fault old new (inl plans) = rose_in_fails fault old new plans
 rose_at_all fault old new (inr (inl plans)) = rose_in_stops fault old new plans
 rose_at_all fault old new (inr (inr plans)) = rose_in_down fault old new plans
 
-pub falls_at_all : (fault : HostFault) (old new : Plan) → NextFails fault true old new → NoneFalls (faults_of old.faults) (faults_of new.faults)
-falls_at_all fault old new (inl plans) = plans.falls
-falls_at_all fault old new (inr (inl plans)) = plans.falls
-falls_at_all fault old new (inr (inr plans)) = plans.falls
+-- the newest call kept the counts that it found, and none fell in it
+pub record Called (old new : Plan) : Type 0 where
+  pub found : faults_of new.found ≡ faults_of old.faults
+  pub falls : NoneFalls (faults_of old.faults) (faults_of new.faults)
+
+pub called : {fault : HostFault} {turn : Turn} {old new : Plan} → Plans fault turn old new → Called old new
+called plans = record { found = ap (λ (c : FaultCounts). faults_of c) plans.found; falls = plans.falls }
+
+pub called_at_all : (fault : HostFault) (old new : Plan) → NextFails fault true old new → Called old new
+called_at_all fault old new (inl plans) = called plans
+called_at_all fault old new (inr (inl plans)) = called plans
+called_at_all fault old new (inr (inr plans)) = called plans
 
 -- a want of memory is counted
-pub memory_falls : (old mid new : Plan) → NoneFalls (faults_of old.faults) (faults_of mid.faults) → OutOfMemory mid new → NoneFalls (faults_of old.faults) (faults_of new.faults)
-memory_falls old mid new falls out = none_falls-then falls out.falls
+pub memory_called : (old mid new : Plan) → Called old mid → OutOfMemory mid new → Called old new
+memory_called old mid new call out = record { found = ap (λ (p : Plan). faults_of p.found) out.is ∙ call.found; falls = none_falls-then call.falls out.falls }
 
-pub memory_rose : (old mid new : Plan) → NoneFalls (faults_of old.faults) (faults_of mid.faults) → OutOfMemory mid new → Counted Memory (faults_of old.faults) (faults_of new.faults)
-memory_rose old mid new falls out = counted-then Memory (faults_of old.faults) (faults_of mid.faults) (faults_of new.faults) falls (rose_by Memory mid.faults new.faults (ap (λ (p : Plan). p.faults) out.is))
+pub memory_rose : (old mid new : Plan) → Called old mid → OutOfMemory mid new → Counted Memory (faults_of old.faults) (faults_of new.faults)
+memory_rose old mid new call out = counted-then Memory (faults_of old.faults) (faults_of mid.faults) (faults_of new.faults) call.falls (rose_by Memory mid.faults new.faults (ap (λ (p : Plan). p.faults) out.is))

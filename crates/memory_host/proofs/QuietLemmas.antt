@@ -11,7 +11,7 @@ use Rattle.memory_host.specs.Quiet.{Quiet, quiet_state, CountsMemory, not_honest
 
 -- the files changed, and perhaps the count
 abbrev after : Quiet → Image → ℕ → Quiet
-after q files memory = record { files = files; said = q.said; script = q.script; memory = memory }
+after q files memory = record { files = files; said = q.said; script = q.script; memory = memory; found = q.memory }
 
 module _ (q : Quiet) (files : Image) (memory : ℕ) where
   quiet : q.memory ≤ memory → IsQuiet (quiet_state q) (quiet_state (after q files memory))
@@ -25,6 +25,7 @@ module _ (q : Quiet) (files : Image) (memory : ℕ) where
       → Replaces name file result (quiet_state q) (quiet_state (after q files memory))
   quiet_replaces name file (Ok u) result counts put same = subst (λ r. Replaces name file r (quiet_state q) (quiet_state (after q files memory))) (sym counts.0) (record {
     quiet = quiet (omega (arith, counts.1));
+    began = refl;
     cause = record { caused = tt };
     done = λ _. record { after = file; steps = refl; is = put };
     tried = λ _. record { after = file; steps = inr refl; is = put };
@@ -33,7 +34,8 @@ module _ (q : Quiet) (files : Image) (memory : ℕ) where
   })
   quiet_replaces name file (Err e) result counts put same = subst (λ r. Replaces name file r (quiet_state q) (quiet_state (after q files memory))) (sym counts.0) (record {
     quiet = quiet counts.2;
-    cause = record { caused = (tt, omega (arith, counts.1)) };
+    began = refl;
+    cause = record { caused = (tt, record { counted = omega (arith, counts.1); last = omega (arith, counts.1) }) };
     done = λ _. tt;
     tried = λ _. subst (λ i. ChangesFile name (MayBecome file) q.files i) (sym same) (changes_nothing name (MayBecome file) q.files (inl refl));
     moves = λ h. absurd (not_honest h);
@@ -47,6 +49,7 @@ module _ (q : Quiet) (files : Image) (memory : ℕ) where
       let is : files ≡ set_file q.files name (Some (overlaid there.file at bytes)) = put ∙ ap (λ o. set_file q.files name (option_map (λ file. overlaid file at bytes) o)) there.is in
       subst (λ r. Writes name at bytes r (quiet_state q) (quiet_state (after q files memory))) (sym counts.0) (record {
         quiet = quiet (omega (arith, counts.1));
+        began = refl;
         cause = record { caused = tt };
         done = λ _. record { after = Some (overlaid there.file at bytes); steps = record { before = there.file; after = overlaid there.file at bytes; was = there.is; is = refl; steps = record { within = there.within; is = refl } }; is = is };
         tried = λ _. record { after = Some (overlaid there.file at bytes); steps = record { before = there.file; after = overlaid there.file at bytes; was = there.is; is = refl; steps = torn-overlaid there.file at bytes there.within }; is = is };
@@ -54,7 +57,8 @@ module _ (q : Quiet) (files : Image) (memory : ℕ) where
       })
   quiet_writes name at bytes (Err e) result there counts put same = subst (λ r. Writes name at bytes r (quiet_state q) (quiet_state (after q files memory))) (sym counts.0) (record {
     quiet = quiet counts.2;
-    cause = record { caused = (tt, omega (arith, counts.1)) };
+    began = refl;
+    cause = record { caused = (tt, record { counted = omega (arith, counts.1); last = omega (arith, counts.1) }) };
     done = λ _. tt;
     tried = λ _. subst (λ i. ChangesFile name (OnBytes (Torn at (length bytes))) q.files i) (sym same) (changes_nothing name (OnBytes (Torn at (length bytes))) q.files (record {
       before = there.file;

@@ -24,7 +24,7 @@ memory_code event plan =
     code_by (Known × (List ℕ × Plan)) (coded× (known_code event) (coded× (coded_list coded_ℕ) plan)) (λ m. (m.known, (m.script, m.plan))) (λ p. record { known = p.0; script = p.1.0; plan = p.1.1 }) (λ _. refl)
 
 abbrev pub memory_state : Memory → HostState
-memory_state m = state_of m.known.past m.known.now m.script (faults_of m.plan.faults)
+memory_state m = state_of m.known.past m.known.now m.script (faults_of m.plan.faults) (faults_of m.plan.found)
 
 -- A host on these files: nothing was said, called or counted, and no write is pending.
 pub record Starts (files : Image) (script failing : List ℕ) (stop : Option ℕ) (m : Memory) : Type 0 where
@@ -32,9 +32,10 @@ pub record Starts (files : Image) (script failing : List ℕ) (stop : Option ℕ
   pub said : (memory_state m).said ≡ []
   pub script_is : (memory_state m).script ≡ script
   pub faults : (memory_state m).faults ≡ record { disk = 0; source = 0; sink = 0; memory = 0 }
+  pub before : (memory_state m).before ≡ record { disk = 0; source = 0; sink = 0; memory = 0 }
   pub plan : IsNewPlan failing stop m.plan
   pub settled : AllSettled (memory_state m)
   pub honest : IsTrue (memory_state m).is_honest
 
 pub memory_sound : (m : Memory) → IsSound (memory_state m)
-memory_sound m = sound m.known.past m.known.now m.script (faults_of m.plan.faults)
+memory_sound m = sound m.known.past m.known.now m.script (faults_of m.plan.faults) (faults_of m.plan.found)

@@ -47,12 +47,13 @@ abbrev pub LeftSince : List Event → Picture → ℕ → Picture → Type 0
 LeftSince [] now t p = (t ≤ 0) × (p ≡ now)
 LeftSince (e ∷ es) now t p = LeftSince es (before e now) t p ⊎ (t ≤ length (e ∷ es)) × May (e ∷ es) now p
 
-abbrev pub state_of : List Event → Picture → List ℕ → Faults → HostState
-state_of past now script faults = record {
+abbrev pub state_of : List Event → Picture → List ℕ → Faults → Faults → HostState
+state_of past now script faults found = record {
   files = now.image;
   said = now.said;
   script = script;
   faults = faults;
+  before = found;
   moment = length past;
   may_leave = May past now;
   left_since = LeftSince past now;

@@ -44,8 +44,8 @@ only_now [] now p left = left.1
 only_now (e ∷ es) now p (inl left) = absurd (let late = not_later es (before e now) (length (e ∷ es)) p left in omega arith)
 only_now (e ∷ es) now p (inr left) = left.1
 
-pub sound : (past : List Event) (now : Picture) (script : List ℕ) (faults : Faults) → IsSound (state_of past now script faults)
-sound past now script faults = record {
+pub sound : (past : List Event) (now : Picture) (script : List ℕ) (faults found : Faults) → IsSound (state_of past now script faults found)
+sound past now script faults found = record {
   faithful = λ h. h;
   stays = λ h. stays past now;
   said = λ h p may. said_is past now p may;
@@ -54,8 +54,8 @@ sound past now script faults = record {
 }
 
 -- no event
-pub moves_same : (past : List Event) (now : Picture) (script script' : List ℕ) (faults faults' : Faults) → Moves Same Same (state_of past now script faults) (state_of past now script' faults')
-moves_same past now script script' faults faults' = record {
+pub moves_same : (past : List Event) (now : Picture) (script script' : List ℕ) (faults faults' found found' : Faults) → Moves Same Same (state_of past now script faults found) (state_of past now script' faults' found')
+moves_same past now script script' faults faults' found found' = record {
   later = omega arith;
   between = λ t p le left. inl left;
   remembers = λ t p le left. left;
@@ -63,10 +63,10 @@ moves_same past now script script' faults faults' = record {
 }
 
 -- an event more
-pub moves_push : (past : List Event) (e : Event) (was now : Picture) (script script' : List ℕ) (faults faults' : Faults) (step : Picture → Picture → Type 0) → before e now ≡ was
+pub moves_push : (past : List Event) (e : Event) (was now : Picture) (script script' : List ℕ) (faults faults' found found' : Faults) (step : Picture → Picture → Type 0) → before e now ≡ was
     → ((p : Picture) → May (e ∷ past) now p → Reached (May past was) step p)
-    → Moves step step (state_of past was script faults) (state_of (e ∷ past) now script' faults')
-moves_push past e was now script script' faults faults' step undone here = record {
+    → Moves step step (state_of past was script faults found) (state_of (e ∷ past) now script' faults' found')
+moves_push past e was now script script' faults faults' found found' step undone here = record {
   later = omega arith;
   between = λ t p le left. elim left [
     | inl earlier ↦ inl (subst (λ (q : Picture). LeftSince past q t p) undone earlier)

@@ -52,12 +52,13 @@ count_of Source counts = counts.source
 count_of Sink counts = counts.sink
 count_of Memory counts = counts.memory
 
--- The call has the next number. Exactly where it doesn't work, this one count rises.
+-- The call has the next number, and the counts that it finds are kept. Exactly where it doesn't work, this one count rises.
 pub record Plans (fault : HostFault) (turn : Turn) (old new : Plan) : Type 0 where
   pub failing : new.failing ≡ old.failing
   pub stop : new.stop ≡ old.stop
   pub calls : new.calls ≡ next_count old.calls
   pub is : turn ≡ turn_of new
+  pub found : new.found ≡ old.faults
   pub faults : new.faults ≡ counted fault turn old.faults
   pub falls : NoneFalls (faults_of old.faults) (faults_of new.faults)
 
@@ -72,6 +73,7 @@ pub record IsNewPlan (failing : List ℕ) (stop : Option ℕ) (plan : Plan) : Ty
   pub stops : plan.stop ≡ stop
   pub calls : plan.calls ≡ 0
   pub faults : plan.faults ≡ record { disk = 0; source = 0; sink = 0; memory = 0 }
+  pub found : plan.found ≡ record { disk = 0; source = 0; sink = 0; memory = 0 }
 
 -- the plan after a want of memory was counted
 pub record OutOfMemory (old new : Plan) : Type 0 where

@@ -12,17 +12,18 @@ use Rattle.host_model.specs.declared.fault.HostFault.TheVariants.{Memory}
 use Rattle.memory_host.specs.Files.{image_code}
 use Rattle.memory_host.specs.Plan.{next_count}
 
--- the files, what was said, what of the script is left, and how often memory was wanting
+-- the files, what was said, what of the script is left, and how often memory was wanting: now, and when the last call began
 pub record Quiet : Type 0 where
   pub files : Image
   pub said : List ℕ
   pub script : List ℕ
   pub memory : ℕ
+  pub found : ℕ
 
 abbrev pub quiet_code : Coded Quiet
 quiet_code =
-    code_by (Image × (List ℕ × (List ℕ × ℕ))) (coded× image_code (coded× (coded_list coded_ℕ) (coded× (coded_list coded_ℕ) coded_ℕ))) (λ q. (q.files, (q.said, (q.script, q.memory))))
-    (λ p. record { files = p.0; said = p.1.0; script = p.1.1.0; memory = p.1.1.1 }) (λ _. refl)
+    code_by (Image × (List ℕ × (List ℕ × (ℕ × ℕ)))) (coded× image_code (coded× (coded_list coded_ℕ) (coded× (coded_list coded_ℕ) (coded× coded_ℕ coded_ℕ)))) (λ q. (q.files, (q.said, (q.script, (q.memory, q.found)))))
+    (λ p. record { files = p.0; said = p.1.0; script = p.1.1.0; memory = p.1.1.1.0; found = p.1.1.1.1 }) (λ _. refl)
 
 -- it tells nothing of crashes
 abbrev pub quiet_state : Quiet → HostState
@@ -31,6 +32,7 @@ quiet_state q = record {
   said = q.said;
   script = q.script;
   faults = record { disk = 0; source = 0; sink = 0; memory = q.memory };
+  before = record { disk = 0; source = 0; sink = 0; memory = q.found };
   moment = 0;
   may_leave = λ _. ⊥;
   left_since = λ _ _. ⊥;
@@ -49,6 +51,7 @@ pub record IsNewQuiet (script : List ℕ) (q : Quiet) : Type 0 where
   pub said : q.said ≡ []
   pub script_is : q.script ≡ script
   pub memory : q.memory ≡ 0
+  pub found : q.found ≡ 0
 
 pub not_honest : IsTrue false → ⊥
 not_honest h = false≢true h

@@ -8,7 +8,7 @@ use std::alloc::{AllocError, Global};
 use std::collections::BTreeSet;
 
 /// How often each kind of call has failed.
-#[derive(Drop)]
+#[derive(Clone, Copy)]
 pub struct FaultCounts {
     pub disk: u64,
     pub source: u64,
@@ -72,6 +72,8 @@ pub struct Plan {
     pub stop: Option<u64>,
     pub calls: u64,
     pub faults: FaultCounts,
+    // the counts that the newest call found
+    pub found: FaultCounts,
 }
 
 impl Plan {
@@ -87,6 +89,7 @@ impl Plan {
             stop,
             calls: 0,
             faults: FaultCounts::new(),
+            found: FaultCounts::new(),
         })
     }
 
@@ -97,6 +100,7 @@ impl Plan {
         ensures { Plans fault result self.old self.new }
     {
         self.calls = self.calls.saturating_add(1);
+        self.found = self.faults;
         let turn = self.turn();
         if turn != Turn::Works {
             self.faults.raise(fault);

@@ -19,6 +19,8 @@ pub struct QuietHost {
     said: Vec<u8>,
     script: Script,
     memory_faults: u64,
+    // the count that the newest call found
+    found: u64,
 }
 
 impl Model for QuietHost {
@@ -28,7 +30,7 @@ impl Model for QuietHost {
 
     ghost coded = { quiet_code };
 
-    ghost view = { λ a. record { files = a.files; said = a.said.items; script = a.script; memory = a.memory_faults } };
+    ghost view = { λ a. record { files = a.files; said = a.said.items; script = a.script; memory = a.memory_faults; found = a.found } };
 }
 
 impl QuietHost {
@@ -42,6 +44,7 @@ impl QuietHost {
             said: Vec::new(alloc),
             script: Script::new(alloc, script)?,
             memory_faults: 0,
+            found: 0,
         })
     }
 
@@ -74,6 +77,7 @@ impl Host for QuietHost {
     ghost sound = { quiet_sound };
 
     fn names(&mut self, alloc: Global) -> Result<Vec<Name>, Stop> {
+        self.found = self.memory_faults;
         match self.files.names(alloc) {
             Ok(names) => Ok(names),
             Err(_) => Err(Stop::NoMemory),
@@ -81,17 +85,20 @@ impl Host for QuietHost {
     }
 
     fn create(&mut self, name: &Name) -> Result<(), HostFault> {
+        self.found = self.memory_faults;
         let empty = Vec::new(self.alloc);
         let made = self.files.replace(self.alloc, name, empty);
         checked(&mut self.memory_faults, made)
     }
 
     fn remove(&mut self, name: &Name) -> Result<(), HostFault> {
+        self.found = self.memory_faults;
         self.files.discard(name);
         Ok(())
     }
 
     fn length(&mut self, name: &Name) -> Result<Option<u64>, HostFault> {
+        self.found = self.memory_faults;
         match self.files.get(name) {
             Some(file) => Ok(Some(file.len() as u64)),
             None => Ok(None),
@@ -99,6 +106,7 @@ impl Host for QuietHost {
     }
 
     fn read(&mut self, name: &Name, at: u64, into: &mut [u8]) -> Result<(), HostFault> {
+        self.found = self.memory_faults;
         let Some(file) = self.files.get(name) else {
             unreachable!()
         };
@@ -108,19 +116,23 @@ impl Host for QuietHost {
     }
 
     fn write(&mut self, name: &Name, at: u64, bytes: &[u8]) -> Result<(), HostFault> {
+        self.found = self.memory_faults;
         let written = self.files.write(name, at as usize, bytes);
         checked(&mut self.memory_faults, written)
     }
 
     fn sync(&mut self, _name: &Name) -> Result<(), HostFault> {
+        self.found = self.memory_faults;
         Ok(())
     }
 
     fn hear(&mut self, into: &mut [u8]) -> Result<usize, HostFault> {
+        self.found = self.memory_faults;
         Ok(self.script.hear(into))
     }
 
     fn say(&mut self, bytes: &[u8]) -> Result<(), HostFault> {
+        self.found = self.memory_faults;
         let said = self.said.extend_from_slice(bytes);
         checked(&mut self.memory_faults, said)
     }

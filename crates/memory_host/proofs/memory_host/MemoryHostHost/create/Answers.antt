@@ -1,9 +1,8 @@
 use Rattle.std.proofs.Common.{ℕ, List, [], Some, Err, subst}
 use Rattle.memory_host.specs.Memory.{Memory, memory_state}
-use Rattle.memory_host.specs.Plan.{faults_of}
 use Rattle.host_model.specs.declared.fault.HostFault.TheVariants.{Disk}
 use Rattle.memory_host.specs.declared.plan.Turn.TheVariants.{Fails, Down}
-use Rattle.memory_host.proofs.PlanLemmas.{rose_in_fails, rose_in_down, rose_either}
+use Rattle.memory_host.proofs.PlanLemmas.{called, rose_in_fails, rose_in_down, rose_either}
 use Rattle.host_model.specs.Calls.{Replaces}
 use Rattle.memory_host.proofs.CallLemmas.{works_replaces, stopped_creates, calm_replaces}
 use Rattle.memory_host.proofs.memory_host.MemoryHostHost.create.Goals as goal
@@ -22,4 +21,4 @@ returns-in-Stops c =
 pub returns-in-Fails : goal.returns-in-Fails
 returns-in-Fails c =
     subst (λ (m : Memory). Replaces c.args.name.now (Some []) (Err Disk) (memory_state m) (memory_state (record { known = c.self.inside.moments; script = c.self.inside.script; plan = c.next.new.self }))) c.self.view_is
-    (calm_replaces c.self.inside.moments c.self.inside.script (faults_of c.self.inside.plan.faults) (faults_of c.next.new.self.faults) c.next.ensures.falls c.args.name.now (Some []) Disk tt (rose_either Disk c.next.result Fails Down c.self.inside.plan c.next.new.self (rose_in_fails Disk) (rose_in_down Disk) c.in-Fails.is c.next.ensures))
+    (calm_replaces c.self.inside.moments c.self.inside.script c.self.inside.plan c.next.new.self (called c.next.ensures) c.args.name.now (Some []) Disk tt (rose_either Disk c.next.result Fails Down c.self.inside.plan c.next.new.self (rose_in_fails Disk) (rose_in_down Disk) c.in-Fails.is c.next.ensures))

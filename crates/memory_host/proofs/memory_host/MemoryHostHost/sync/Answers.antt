@@ -1,8 +1,7 @@
 use Rattle.std.proofs.Common.{Err, subst}
 use Rattle.memory_host.specs.Memory.{Memory, memory_state}
-use Rattle.memory_host.specs.Plan.{faults_of}
 use Rattle.host_model.specs.declared.fault.HostFault.TheVariants.{Disk}
-use Rattle.memory_host.proofs.PlanLemmas.{rose_at_all, falls_at_all}
+use Rattle.memory_host.proofs.PlanLemmas.{rose_at_all, called_at_all}
 use Rattle.host_model.specs.Calls.{Syncs}
 use Rattle.memory_host.proofs.CallLemmas.{calm_syncs, works_syncs}
 use Rattle.memory_host.proofs.memory_host.MemoryHostHost.sync.Goals as goal
@@ -10,7 +9,7 @@ use Rattle.memory_host.proofs.memory_host.MemoryHostHost.sync.Goals as goal
 pub returns-then-fails : goal.returns-then-fails
 returns-then-fails c =
     subst (λ (m : Memory). Syncs c.args.name.now (Err Disk) (memory_state m) (memory_state (record { known = c.self.inside.moments; script = c.self.inside.script; plan = c.fails.new.self }))) c.self.view_is
-    (calm_syncs c.self.inside.moments c.self.inside.script (faults_of c.self.inside.plan.faults) (faults_of c.fails.new.self.faults) (falls_at_all Disk c.self.inside.plan c.fails.new.self c.if-fails.ensures) c.args.name.now Disk tt (rose_at_all Disk c.self.inside.plan c.fails.new.self c.if-fails.ensures))
+    (calm_syncs c.self.inside.moments c.self.inside.script c.self.inside.plan c.fails.new.self (called_at_all Disk c.self.inside.plan c.fails.new.self c.if-fails.ensures) c.args.name.now Disk tt (rose_at_all Disk c.self.inside.plan c.fails.new.self c.if-fails.ensures))
 
 pub returns : goal.returns
 returns c =

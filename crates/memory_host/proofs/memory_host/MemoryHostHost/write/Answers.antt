@@ -1,9 +1,8 @@
 use Rattle.std.proofs.Common.{Err, length, subst, sym, refl}
 use Rattle.memory_host.specs.Memory.{Memory, memory_state}
-use Rattle.memory_host.specs.Plan.{faults_of}
 use Rattle.host_model.specs.declared.fault.HostFault.TheVariants.{Disk}
 use Rattle.memory_host.specs.declared.plan.Turn.TheVariants.{Fails, Stops}
-use Rattle.memory_host.proofs.PlanLemmas.{rose_in_stops, rose_in_fails, rose_in_down, rose_either}
+use Rattle.memory_host.proofs.PlanLemmas.{called, rose_in_stops, rose_in_fails, rose_in_down, rose_either}
 use Rattle.host_model.specs.Calls.{Writes, Reaches}
 use Rattle.memory_host.proofs.CallLemmas.{calm_writes, works_writes, torn_or_not, half_fits, half}
 use Rattle.memory_host.proofs.memory_host.MemoryHostHost.write.Goals as goal
@@ -16,9 +15,9 @@ returns-in-Works c =
 pub returns-in-Fails : goal.returns-in-Fails
 returns-in-Fails c =
     subst (λ (m : Memory). Writes c.args.name.now c.args.at c.args.bytes.now (Err Disk) (memory_state m) (memory_state (record { known = c.write.new.self; script = c.self.inside.script; plan = c.next.new.self }))) c.self.view_is
-    (torn_or_not c.self.inside.moments c.write.new.self c.self.inside.script c.self.inside.plan c.next.new.self c.args.name.now c.args.at (half (length c.args.bytes.now)) c.args.bytes.now c.write.result c.next.ensures.falls (rose_either Disk c.next.result Fails Stops c.self.inside.plan c.next.new.self (rose_in_fails Disk) (rose_in_stops Disk) c.in-Fails.is c.next.ensures) c.write.ensures.ok c.write.ensures.err (half_fits (length c.args.bytes.now)) (subst (λ (m : Memory). Reaches m.known.now.image c.args.name.now c.args.at) (sym c.self.view_is) (c.requires refl)))
+    (torn_or_not c.self.inside.moments c.write.new.self c.self.inside.script c.self.inside.plan c.next.new.self c.args.name.now c.args.at (half (length c.args.bytes.now)) c.args.bytes.now c.write.result (called c.next.ensures) (rose_either Disk c.next.result Fails Stops c.self.inside.plan c.next.new.self (rose_in_fails Disk) (rose_in_stops Disk) c.in-Fails.is c.next.ensures) c.write.ensures.ok c.write.ensures.err (half_fits (length c.args.bytes.now)) (subst (λ (m : Memory). Reaches m.known.now.image c.args.name.now c.args.at) (sym c.self.view_is) (c.requires refl)))
 
 pub returns-in-Down : goal.returns-in-Down
 returns-in-Down c =
     subst (λ (m : Memory). Writes c.args.name.now c.args.at c.args.bytes.now (Err Disk) (memory_state m) (memory_state (record { known = c.self.inside.moments; script = c.self.inside.script; plan = c.next.new.self }))) c.self.view_is
-    (calm_writes c.self.inside.moments c.self.inside.script (faults_of c.self.inside.plan.faults) (faults_of c.next.new.self.faults) c.next.ensures.falls c.args.name.now c.args.at c.args.bytes.now Disk tt (rose_in_down Disk c.self.inside.plan c.next.new.self c.in-Down.ensures) (subst (λ (m : Memory). Reaches m.known.now.image c.args.name.now c.args.at) (sym c.self.view_is) (c.requires refl)))
+    (calm_writes c.self.inside.moments c.self.inside.script c.self.inside.plan c.next.new.self (called c.next.ensures) c.args.name.now c.args.at c.args.bytes.now Disk tt (rose_in_down Disk c.self.inside.plan c.next.new.self c.in-Down.ensures) (subst (λ (m : Memory). Reaches m.known.now.image c.args.name.now c.args.at) (sym c.self.view_is) (c.requires refl)))

@@ -6,8 +6,8 @@ use Rattle.memory_host.proofs.quiet_host.QuietHostHost.create.Goals as goal
 
 pub returns : goal.returns
 returns c =
-    let before : Quiet = record { files = c.self.inside.files; said = c.self.inside.said.items; script = c.self.inside.script; memory = c.self.inside.memory_faults } in
-    let after : Quiet = record { files = c.replace-made.new.self; said = c.self.inside.said.items; script = c.self.inside.script; memory = c.checked.new.faults } in
+    let before : Quiet = record { files = c.self.inside.files; said = c.self.inside.said.items; script = c.self.inside.script; memory = c.self.inside.memory_faults; found = c.self.inside.found } in
+    let after : Quiet = record { files = c.replace-made.new.self; said = c.self.inside.said.items; script = c.self.inside.script; memory = c.checked.new.faults; found = c.self.inside.memory_faults } in
     subst (λ (q : Quiet). Replaces c.args.name.now (Some []) c.checked.result (quiet_state q) (quiet_state after)) c.self.view_is
     (subst (λ (l : List ℕ). Replaces c.args.name.now (Some l) c.checked.result (quiet_state before) (quiet_state after)) c.new-empty.ensures.items
     (quiet_replaces before c.replace-made.new.self c.checked.new.faults c.args.name.now (Some c.new-empty.result.items) c.replace-made.result c.checked.result c.checked.ensures c.replace-made.ensures.ok c.replace-made.ensures.err))
