@@ -20,13 +20,22 @@ raised Source faults = record faults { source = one_more faults.source }
 raised Sink faults = record faults { sink = one_more faults.sink }
 raised Memory faults = record faults { memory = one_more faults.memory }
 
+-- how often calls have failed: now, and when the last call began
+pub record Tally : Type 0 where
+  pub now : Faults
+  pub found : Faults
+
+abbrev pub no_tally : Tally
+no_tally = record { now = no_faults; found = no_faults }
+
 -- such a host is neither faithful nor honest, so no clause speaks of what stands beside its counts
-abbrev pub silent_state : Faults → HostState
-silent_state faults = record {
+abbrev pub silent_state : Tally → HostState
+silent_state tally = record {
   files = map.empty;
   said = [];
   script = [];
-  faults = faults;
+  faults = tally.now;
+  before = tally.found;
   moment = 0;
   may_leave = λ p. Unit {0};
   left_since = λ t p. Unit {0};
@@ -34,5 +43,5 @@ silent_state faults = record {
   is_honest = false;
 }
 
-pub silent_sound : (faults : Faults) → IsSound (silent_state faults)
-silent_sound faults = record { faithful = λ h. h; stays = λ h. cc; said = λ h p left. cc; counts_now = λ h t p le left. tt; only_now = λ h p left. tt }
+pub silent_sound : (tally : Tally) → IsSound (silent_state tally)
+silent_sound tally = record { faithful = λ h. h; stays = λ h. cc; said = λ h p left. cc; counts_now = λ h t p le left. tt; only_now = λ h p left. tt }

@@ -38,6 +38,18 @@ impl FaultCounts {
         }
     }
 
+    /// The same counts again.
+    pub fn copy(&self) -> FaultCounts
+        ensures { result ≡ self.now }
+    {
+        FaultCounts {
+            disk: self.disk,
+            source: self.source,
+            sink: self.sink,
+            memory: self.memory,
+        }
+    }
+
     /// Counts a fault.
     pub fn raise(&mut self, fault: HostFault)
         ensures raised { self.new ≡ raised fault self.old }

@@ -1,6 +1,6 @@
 // The host that the program runs over.
 ghost use Rattle.std.specs.Prelude.{◌≡◌, ◌≤◌, length, IfOk};
-ghost use Rattle.host_files.specs.Silent.{no_faults};
+ghost use Rattle.host_files.specs.Silent.{no_tally};
 
 use crate::directory::Directory;
 use crate::fault_counts::FaultCounts;
@@ -13,7 +13,7 @@ use std::io::{ErrorKind, Input, Print, Read};
 use std::marker::Model;
 
 /// The files of one directory, the script on the standard input, and the replies on the standard output. Contracts see
-/// its four counts of faults.
+/// its four counts of faults, as they stand and as the last call found them.
 ///
 /// What a disk or a stream holds is known to no contract, so this host is neither faithful nor honest, and its contracts
 /// say only which fault a call may answer and that it was counted. On a system that keeps what it promises each call does
@@ -33,14 +33,16 @@ pub struct FilesHost<R: Files + Input + Print + Drop> {
     input: R::Reader,
     directory: Directory<R>,
     faults: FaultCounts,
+    // the counts that the newest call found
+    found: FaultCounts,
 }
 
 impl<R: Files + Input + Print + Drop> Model for FilesHost<R> {
-    ghost use Rattle.host_model.specs.State.{Faults};
+    ghost use Rattle.host_files.specs.Silent.{Tally};
 
-    ghost Value = { Faults };
+    ghost Value = { Tally };
 
-    ghost view = { λ host. host.faults };
+    ghost view = { λ host. record { now = host.faults; found = host.found } };
 }
 
 impl<R: Files + Input + Print + Drop> FilesHost<R> {
@@ -48,7 +50,7 @@ impl<R: Files + Input + Print + Drop> FilesHost<R> {
     ///
     /// The only error is want of memory for a copy of the path.
     pub fn new(rt: R, alloc: Global, dir: &str) -> Result<FilesHost<R>, AllocError>
-        ensures { IfOk result (λ host. host ≡ no_faults) }
+        ensures { IfOk result (λ host. host ≡ no_tally) }
     {
         let directory = Directory::new(alloc, dir)?;
         let input = rt.reader();
@@ -57,6 +59,7 @@ impl<R: Files + Input + Print + Drop> FilesHost<R> {
             input,
             directory,
             faults: FaultCounts::new(),
+            found: FaultCounts::new(),
         })
     }
 }
@@ -73,6 +76,7 @@ impl<R: Files + Input + Print + Drop> Host for FilesHost<R> {
     ///
     /// One call of the system for each entry of the directory, and time as for a sort.
     fn names(&mut self, alloc: Global) -> Result<Vec<Name>, Stop> {
+        self.found = self.faults.copy();
         match self.directory.names(&self.rt, alloc) {
             Ok(names) => Ok(names),
             Err(FileFault::Memory) => Err(Stop::NoMemory),
@@ -88,6 +92,7 @@ impl<R: Files + Input + Print + Drop> Host for FilesHost<R> {
     ///
     /// Two syncs, of the file and of the directory.
     fn create(&mut self, name: &Name) -> Result<(), HostFault> {
+        self.found = self.faults.copy();
         let done = self.directory.create(&self.rt, name);
         self.faults.counted(done)
     }
@@ -96,12 +101,14 @@ impl<R: Files + Input + Print + Drop> Host for FilesHost<R> {
     ///
     /// One sync, of the directory.
     fn remove(&mut self, name: &Name) -> Result<(), HostFault> {
+        self.found = self.faults.copy();
         let done = self.directory.remove(&self.rt, name);
         self.faults.counted(done)
     }
 
     /// How many bytes the file has, or none exactly where it isn't there. One call of the system.
     fn length(&mut self, name: &Name) -> Result<Option<u64>, HostFault> {
+        self.found = self.faults.copy();
         let length = self.directory.length(&self.rt, name);
         self.faults.counted(length)
     }
@@ -110,6 +117,7 @@ impl<R: Files + Input + Print + Drop> Host for FilesHost<R> {
     ///
     /// One call of the system where the last read or write ended here, two elsewhere.
     fn read(&mut self, name: &Name, at: u64, into: &mut [u8]) -> Result<(), HostFault> {
+        self.found = self.faults.copy();
         let done = self.directory.read(&self.rt, name, at, into);
         self.faults.counted(done)
     }
@@ -119,6 +127,7 @@ impl<R: Files + Input + Print + Drop> Host for FilesHost<R> {
     /// No sync: a crash before the file's next sync may leave any bytes in this range. One call of the system where the last
     /// read or write ended here, two elsewhere.
     fn write(&mut self, name: &Name, at: u64, bytes: &[u8]) -> Result<(), HostFault> {
+        self.found = self.faults.copy();
         let done = self.directory.write(&self.rt, name, at, bytes);
         self.faults.counted(done)
     }
@@ -128,12 +137,14 @@ impl<R: Files + Input + Print + Drop> Host for FilesHost<R> {
     /// One sync of the file's data, and one of the directory where it isn't known to be synced: at a host's first `sync` or
     /// after a fault in a `create` or `remove`.
     fn sync(&mut self, name: &Name) -> Result<(), HostFault> {
+        self.found = self.faults.copy();
         let done = self.directory.sync(&self.rt, name);
         self.faults.counted(done)
     }
 
     /// The next bytes of the standard input, at least one, or 0 at its end. Waits until there are some. One call of the system.
     fn hear(&mut self, into: &mut [u8]) -> Result<usize, HostFault> {
+        self.found = self.faults.copy();
         match heard(&mut self.input, into) {
             Ok(count) => Ok(count),
             Err(_) => {
@@ -146,6 +157,7 @@ impl<R: Files + Input + Print + Drop> Host for FilesHost<R> {
     /// Writes all the bytes to the standard output, past every buffer of this process. One call of the system, unless the
     /// reader takes less at once. A crash inside leaves a front of them said.
     fn say(&mut self, bytes: &[u8]) -> Result<(), HostFault> {
+        self.found = self.faults.copy();
         match Print::write_all(&self.rt, bytes) {
             Ok(()) => Ok(()),
             Err(_) => {
