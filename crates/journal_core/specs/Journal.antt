@@ -2,7 +2,7 @@
 use Rattle.std.specs.Prelude.{◌≡◌, ◌⊎◌, ℕ, ◌+◌, ◌^◌, ◌<◌, ◌≤◌, List, [], ◌∷◌, ◌++◌, length, Some, Result, OnOk, IsTrue}
 use Rattle.host_model.specs.Picture.{Image, Picture, file_at}
 use Rattle.host_model.specs.State.{HostState}
-use Rattle.host_model.specs.Calls.{IsOfFiles, Counted, IsSettled}
+use Rattle.host_model.specs.Calls.{IsOfFiles, Faulted, IsSettled}
 use Rattle.host_model.specs.Leaves.{LeavesOnly}
 use Rattle.host_model.specs.declared.fault.HostFault.{HostFault}
 use Rattle.host_model.specs.declared.fault.Stop.{Stop}
@@ -28,9 +28,9 @@ pub record IsDamaged (name : List ℕ) (image : Image) : Type 0 where
 abbrev pub IsFull : ℕ → List ℕ → Type 0
 IsFull end payload = (2 ^ 32 ≤ length payload) ⊎ (2 ^ 40 < end + 5 + length payload + 1)
 
--- a fault of a call on files, counted in this call
+-- a fault of a call on files, counted in this call by the last call of the host
 abbrev pub IsCounted : HostFault → HostState → HostState → Type 0
-IsCounted fault old new = IsOfFiles fault × Counted fault old.faults new.faults
+IsCounted fault old new = IsOfFiles fault × Faulted fault old new
 
 -- why a call on files that takes memory may stop
 abbrev pub FileCause : Stop → HostState → HostState → Type 0
