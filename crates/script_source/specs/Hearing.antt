@@ -1,11 +1,13 @@
 -- What the hearing of a line does.
-use Rattle.std.specs.Prelude.{◌≡◌, ℕ, ◌≤◌, ◌<◌, List, [], ◌∷◌, length, IsTrue}
+use Rattle.std.specs.Prelude.{◌≡◌, ℕ, ◌≤◌, ◌<◌, List, [], ◌∷◌, length, Option, IsTrue}
 use Rattle.host_model.specs.Picture.{Same}
 use Rattle.host_model.specs.State.{HostState}
 use Rattle.host_model.specs.Moves.{Moves}
-use Rattle.host_model.specs.Calls.{Keeps, Counted, IsOfSource}
+use Rattle.host_model.specs.Calls.{Keeps, Faulted, IsOfSource}
 use Rattle.host_model.specs.declared.fault.Stop.{Stop}
 use Rattle.host_model.specs.declared.fault.Stop.TheVariants.{Host, Damaged, Full, NoMemory}
+use Rattle.script_source.specs.declared.halt.Halt.{Halt}
+use Rattle.script_source.specs.declared.halt.Halt.TheVariants.{Fault, NoMemory as ShortOfMemory}
 use Rattle.script_source.specs.Script.{ScriptLine, lines_of, text_of}
 use Rattle.script_source.specs.declared.script.Heard.{Heard}
 use Rattle.script_source.specs.declared.script.Heard.TheVariants.{End, Line, TooLong}
@@ -13,6 +15,16 @@ use Rattle.script_source.specs.declared.script.Heard.TheVariants.{End, Line, Too
 -- a line may have so many bytes, a carriage return before its line feed counted
 abbrev pub max_line : ℕ
 max_line = 8192
+
+-- the bytes that are heard and not yet taken, and what it has answered, and answers from then on
+pub record ScriptValue : Type 0 where
+  pub held : List ℕ
+  pub stop : Option Stop
+
+-- the stop that it is answered as
+abbrev pub stop_of : Halt → Stop
+stop_of (Fault fault) = Host fault
+stop_of ShortOfMemory = NoMemory
 
 -- the script alone is heard
 pub record Listens (old new : HostState) : Type 0 where
@@ -48,7 +60,7 @@ IsShort TooLong = Unit {0}
 
 -- why no line was heard
 abbrev pub HearingStops : Stop → HostState → HostState → Type 0
-HearingStops (Host fault) old new = IsOfSource fault × Counted fault old.faults new.faults
+HearingStops (Host fault) old new = IsOfSource fault × Faulted fault old new
 HearingStops (Damaged name) old new = ⊥
 HearingStops Full old new = ⊥
 HearingStops NoMemory old new = Unit {0}

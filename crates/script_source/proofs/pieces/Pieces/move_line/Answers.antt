@@ -2,7 +2,7 @@ use Rattle.std.proofs.Common.{◌≡◌, ◌++◌, ◌+◌, ◌-◌, ◌≤◌, 
 use Rattle.std.proofs.lemmas.List.{nil_from_length}
 use Rattle.script_source.specs.Feeds.{MovesLine, HasNoFeed}
 use Rattle.script_source.proofs.FeedLemmas.{moves_to_feed, no_feed_from_none, drop-slice_range}
-use Rattle.script_source.proofs.script.Script.move_line.Goals as goal
+use Rattle.script_source.proofs.pieces.Pieces.move_line.Goals as goal
 
 pub returns-in_ok-extend_from_slice-in-Some : goal.returns-in_ok-extend_from_slice-in-Some
 returns-in_ok-extend_from_slice-in-Some c =

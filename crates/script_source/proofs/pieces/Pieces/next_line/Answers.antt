@@ -7,7 +7,7 @@ use Rattle.script_source.specs.Feeds.{HasNoFeed, MovesLine, Fills}
 use Rattle.script_source.proofs.HearingLemmas.{listens-refl, listens-then}
 use Rattle.script_source.proofs.FeedLemmas.{no_feed-nil, no_feed_longer, moved_ended, moved_unended, moved_front, feed_against_none, still_held}
 use Rattle.script_source.proofs.LinesLemmas.{meets_long_line, takes_ended, takes_last}
-use Rattle.script_source.proofs.script.Script.next_line.Goals as goal
+use Rattle.script_source.proofs.pieces.Pieces.next_line.Goals as goal
 
 -- what is left of the script, with the line before it, once bytes are held
 left_of : {a b c : HostState} {held more : List ℕ} {is_some : Bool} (line before : List ℕ) → Listens a b → Fills held b more c is_some → (IsTrue a.is_faithful → line ++ (held ++ b.script) ≡ before)

@@ -2,7 +2,7 @@ use Rattle.std.proofs.Common.{◌≡◌, ◌++◌, ◌-◌, ◌≤◌, length, I
 use Rattle.std.specs.Prelude.{Contains}
 use Rattle.script_source.specs.Hearing.{Listens}
 use Rattle.script_source.specs.Feeds.{HasNoFeed}
-use Rattle.script_source.proofs.script.Script.next_line.Given as goal
+use Rattle.script_source.proofs.pieces.Pieces.next_line.Given as goal
 
 abbrev pub invariant-loop-line : goal.invariant-loop-line
 invariant-loop-line g l = record {
