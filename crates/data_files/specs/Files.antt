@@ -4,7 +4,7 @@ use Rattle.std.specs.Int.{w64}
 use Rattle.std.specs.List.{flat_map, range_with_len}
 use Rattle.host_model.specs.Picture.{Image, Picture, file_at}
 use Rattle.host_model.specs.State.{HostState}
-use Rattle.host_model.specs.Calls.{IsOfFiles, Counted}
+use Rattle.host_model.specs.Calls.{IsOfFiles, Faulted}
 use Rattle.host_model.specs.declared.fault.Stop.{Stop}
 use Rattle.host_model.specs.declared.fault.Stop.TheVariants.{Host, Damaged, Full, NoMemory}
 use Rattle.bytes_form.specs.Fields.{number_field}
@@ -74,14 +74,14 @@ MayMake most old new = (new ≡ old) ⊎ IsShort most new
 
 -- why a file may not be written
 abbrev pub WriteCause : Stop → HostState → HostState → Type 0
-WriteCause (Host fault) old new = IsOfFiles fault × Counted fault old.faults new.faults
+WriteCause (Host fault) old new = IsOfFiles fault × Faulted fault old new
 WriteCause (Damaged name) old new = ⊥
 WriteCause Full old new = ⊥
 WriteCause NoMemory old new = Unit {0}
 
 -- why a file may not be read
 abbrev pub ReadCause : Bytes → Stop → HostState → HostState → Type 0
-ReadCause name (Host fault) old new = IsOfFiles fault × Counted fault old.faults new.faults
+ReadCause name (Host fault) old new = IsOfFiles fault × Faulted fault old new
 ReadCause name (Damaged damaged) old new = (damaged ≡ name) × (IsTrue old.is_faithful → IsDamaged name old.files)
 ReadCause name Full old new = ⊥
 ReadCause name NoMemory old new = Unit {0}
