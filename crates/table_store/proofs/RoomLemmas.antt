@@ -6,7 +6,7 @@ use Rattle.std.specs.List.{flat_map}
 use Rattle.std.specs.Fmt.{decimal, digits}
 use Rattle.host_model.specs.State.{HostState}
 use Rattle.host_model.specs.Calls.{IsQuiet}
-use Rattle.host_model.proofs.CallsLemmas.{counted-then}
+use Rattle.host_model.proofs.CallsLemmas.{faulted-then}
 use Rattle.host_model.specs.declared.fault.Stop.{Stop}
 use Rattle.host_model.specs.declared.fault.Stop.TheVariants.{Host, Damaged, Full, NoMemory}
 use Rattle.node_store.specs.declared.changes.NodeOp.{NodeOp}
@@ -57,7 +57,7 @@ make_stops result stop ops store name a b c failed made first quiet stops =
     subst (λ (r : Result _ Stop). IfErr r (λ s. MakeStops s a c)) (sym failed) (at stop (subst (λ s. AppendStops first_ops s stop b c) made (subst (λ l. AppendStops l store stop b c) first stops)))
   where
     at : (s : Stop) → AppendStops first_ops (record { name = name; nodes = map.empty; end = 0 }) s b c → MakeStops s a c
-    at (Host fault) counted = (counted.0, counted-then fault a.faults b.faults c.faults quiet.keeps.counts counted.1)
+    at (Host fault) counted = (counted.0, faulted-then quiet.keeps counted.1)
     at (Damaged named) none = none
     at Full full = first_has_room name full
     at NoMemory memory = tt

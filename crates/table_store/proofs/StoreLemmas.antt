@@ -7,7 +7,7 @@ use Rattle.host_model.specs.State.{HostState}
 use Rattle.host_model.specs.Calls.{IsSound, IsQuiet, Looks}
 use Rattle.host_model.specs.Leaves.{LeavesOnly, AllSettled, Shows}
 use Rattle.host_model.specs.Alters.{Alters}
-use Rattle.host_model.proofs.CallsLemmas.{quiet-then, still_faithful, still_honest, counted-then}
+use Rattle.host_model.proofs.CallsLemmas.{quiet-then, still_faithful, still_honest, faulted-then}
 use Rattle.host_model.proofs.MovesLemmas.{goes_on}
 use Rattle.host_model.proofs.LeavesLemmas.{leaves_then, alters_leave, same_leave, rests_after_same}
 use Rattle.node_store.specs.Nodes.{Nodes, multi_applied}
@@ -170,7 +170,7 @@ open_stops result answer stop name a b c failed is named looks born cause =
     subst (λ (r : Result _ StoreStop). IfErr r (λ s. OpenStops s a c)) (sym (failed ∙ ap Err is)) (at stop cause)
   where
     at : (s : Stop) → NodesCause name s b c → OpenStops (Stopped s) a c
-    at (Host fault) counted = (counted.0, counted-then fault a.faults b.faults c.faults looks.quiet.keeps.counts counted.1)
+    at (Host fault) counted = (counted.0, faulted-then looks.quiet.keeps counted.1)
     at (Damaged damaged) causes = (causes.0 ∙ named, λ f. (born f, not_kept_none a.files (subst (λ i. HasNoNodes nodes_name i) (looks.same f) (subst (λ n. HasNoNodes n b.files) named (causes.1 (still_faithful looks.quiet.keeps f))))))
     at Full causes = causes
     at NoMemory causes = tt

@@ -1,7 +1,7 @@
 -- What the private functions that change the nodes ensure.
 use Rattle.std.specs.Prelude.{◌≡◌, ◌⊎◌, List, Result, Err, MatchResult, ⊤}
 use Rattle.host_model.specs.State.{HostState}
-use Rattle.host_model.specs.Calls.{IsOfFiles, Counted}
+use Rattle.host_model.specs.Calls.{IsOfFiles, Faulted}
 use Rattle.host_model.specs.declared.fault.Stop.{Stop}
 use Rattle.host_model.specs.declared.fault.Stop.TheVariants.{Host, Damaged, Full, NoMemory}
 use Rattle.node_store.specs.declared.changes.NodeOp.{NodeOp}
@@ -16,7 +16,7 @@ pub record Applies (ops : List NodeOp) (nodes : Nodes) : Type 0 where
 
 -- why changes that apply aren't made
 abbrev pub AppendStops : List NodeOp → StoreValue → Stop → HostState → HostState → Type 0
-AppendStops ops store (Host fault) old new = IsOfFiles fault × Counted fault old.faults new.faults
+AppendStops ops store (Host fault) old new = IsOfFiles fault × Faulted fault old new
 AppendStops ops store (Damaged named) old new = ⊥
 AppendStops ops store Full old new = IsFull ops store
 AppendStops ops store NoMemory old new = Unit {0}

@@ -1,7 +1,7 @@
 -- What the private functions that make a table ensure.
 use Rattle.std.specs.Prelude.{◌≡◌, ℕ, ◌+◌, ◌≤◌, ◌^◌, List, [], ◌∷◌, ◌++◌, None}
 use Rattle.host_model.specs.State.{HostState}
-use Rattle.host_model.specs.Calls.{IsOfFiles, Counted}
+use Rattle.host_model.specs.Calls.{IsOfFiles, Faulted}
 use Rattle.host_model.specs.declared.fault.Stop.{Stop}
 use Rattle.host_model.specs.declared.fault.Stop.TheVariants.{Host, Damaged, Full, NoMemory}
 use Rattle.node_store.specs.declared.changes.NodeOp.{NodeOp}
@@ -24,7 +24,7 @@ DrawStops NoMemory next = Unit {0}
 
 -- Why an entry wasn't committed. Only a fault of the host leaves it behind the others.
 abbrev pub CommitStops : Stop → List NodeOp → StoreValue → Entry → List Entry → List Entry → HostState → HostState → Type 0
-CommitStops (Host fault) ops store entry before after old new = IsOfFiles fault × Counted fault old.faults new.faults × (after ≡ before ++ entry ∷ [])
+CommitStops (Host fault) ops store entry before after old new = IsOfFiles fault × Faulted fault old new × (after ≡ before ++ entry ∷ [])
 CommitStops (Damaged named) ops store entry before after old new = ⊥
 CommitStops Full ops store entry before after old new = (after ≡ before) × IsFull ops store
 CommitStops NoMemory ops store entry before after old new = after ≡ before

@@ -2,7 +2,7 @@
 use Rattle.std.specs.Prelude.{◌≡◌, ◌⊎◌, ℕ, List, [], ◌∷◌, ◌++◌, Option, None, Result, IsTrue, OnOk}
 use Rattle.host_model.specs.Picture.{Image}
 use Rattle.host_model.specs.State.{HostState}
-use Rattle.host_model.specs.Calls.{IsQuiet, Counted, IsOfFiles}
+use Rattle.host_model.specs.Calls.{IsQuiet, Faulted, IsOfFiles}
 use Rattle.host_model.specs.Leaves.{LeavesOnly, AllSettled, Shows}
 use Rattle.host_model.specs.declared.fault.Stop.{Stop}
 use Rattle.host_model.specs.declared.fault.Stop.TheVariants.{Host, Damaged, Full, NoMemory}
@@ -69,7 +69,7 @@ pub record HasCreated (line : ℕ) (name : List ℕ) (old new : StoreValue) : Ty
 
 -- Why a table wasn't made. Only a fault of the host leaves its entry in doubt.
 abbrev pub CreateStops : Stop → ℕ → List ℕ → StoreValue → StoreValue → HostState → HostState → Type 0
-CreateStops (Host fault) line name old new before now = IsOfFiles fault × Counted fault before.faults now.faults × (new.doubt ≡ entry_of line name old.tables ∷ [])
+CreateStops (Host fault) line name old new before now = IsOfFiles fault × Faulted fault before now × (new.doubt ≡ entry_of line name old.tables ∷ [])
 CreateStops (Damaged named) line name old new before now = ⊥
 CreateStops Full line name old new before now = (new.doubt ≡ []) × IsCreateFull name old.tables old.nodes
 CreateStops NoMemory line name old new before now = new.doubt ≡ []
@@ -83,7 +83,7 @@ IsUnasked NoMemory = Unit {0}
 
 -- why the disk could not be looked at, or no store made on an unborn one
 abbrev pub MakeStops : Stop → HostState → HostState → Type 0
-MakeStops (Host fault) old new = IsOfFiles fault × Counted fault old.faults new.faults
+MakeStops (Host fault) old new = IsOfFiles fault × Faulted fault old new
 MakeStops (Damaged named) old new = ⊥
 MakeStops Full old new = ⊥
 MakeStops NoMemory old new = Unit {0}
@@ -98,7 +98,7 @@ InitStops (Stopped stop) old new = MakeStops stop old new
 abbrev pub OpenStops : StoreStop → HostState → HostState → Type 0
 OpenStops NotInit old new = IsTrue old.is_faithful → IsUnborn nodes_name old.files
 OpenStops NotBlank old new = ⊥
-OpenStops (Stopped (Host fault)) old new = IsOfFiles fault × Counted fault old.faults new.faults
+OpenStops (Stopped (Host fault)) old new = IsOfFiles fault × Faulted fault old new
 OpenStops (Stopped (Damaged named)) old new = (named ≡ nodes_name) × (IsTrue old.is_faithful → IsBorn nodes_name old.files × IsNotKept old.files)
 OpenStops (Stopped Full) old new = ⊥
 OpenStops (Stopped NoMemory) old new = Unit {0}
