@@ -52,7 +52,7 @@ kept_born image tables kept unborn =
 stop_short : (stop : Stop) (first now : HostState) (start : Station) (lines : ℕ) (past maybe : List Entry)
     → ((fault : HostFault) → Counted fault first.faults now.faults → ⊥) → ((count : ℕ) → IsFullAt start (texts_of first.script) count → ⊥)
     → HasEnded (Err stop) first start lines past maybe now → StopCounts stop first now → IsDoneOrShort (status_for (Err stop))
-stop_short (Host fault) first now start lines past maybe no_fault room ended counts = absurd (no_fault fault counts)
+stop_short (Host fault) first now start lines past maybe no_fault room ended counts = absurd (no_fault fault counts.counted)
 stop_short (Damaged name) first now start lines past maybe no_fault room ended counts = absurd counts
 stop_short Full first now start lines past maybe no_fault room ended counts = ⊎_elim
     (λ s. absurd s.why)
@@ -95,13 +95,13 @@ ending_short (Err stop) first now start lines past maybe no_fault room within en
 no_store_short : (init : Bool) (stop : StoreStop) (first now : HostState) → IsUnhindered init first now → StoreStops init stop first now → IsDoneOrShort (without_store stop).status
 no_store_short false NotInit first now free stops = absurd (kept_born first.files free.tables free.begins (stops free.faithful))
 no_store_short false NotBlank first now free stops = absurd stops
-no_store_short false (Stopped (Host fault)) first now free stops = absurd (free.no_fault fault stops.1)
+no_store_short false (Stopped (Host fault)) first now free stops = absurd (free.no_fault fault stops.1.counted)
 no_store_short false (Stopped (Damaged name)) first now free stops = absurd ((stops.1 free.faithful).1.none free.tables free.begins)
 no_store_short false (Stopped Full) first now free stops = absurd stops
 no_store_short false (Stopped NoMemory) first now free stops = inr refl
 no_store_short true NotInit first now free stops = absurd stops
 no_store_short true NotBlank first now free stops = absurd (stops free.faithful free.begins.0)
-no_store_short true (Stopped (Host fault)) first now free stops = absurd (free.no_fault fault stops.1)
+no_store_short true (Stopped (Host fault)) first now free stops = absurd (free.no_fault fault stops.1.counted)
 no_store_short true (Stopped (Damaged name)) first now free stops = absurd stops
 no_store_short true (Stopped Full) first now free stops = absurd stops
 no_store_short true (Stopped NoMemory) first now free stops = inr refl

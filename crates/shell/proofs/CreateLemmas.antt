@@ -21,7 +21,7 @@ use Rattle.table_store.specs.Room.{AddsTable}
 use Rattle.table_store.specs.StoreValue.{StoreValue, MayCreate, Creates, HasCreated, CreateStops, IsUnasked, entry_of, station_of}
 use Rattle.plain_model.specs.declared.operation.Entry.{Entry}
 use Rattle.shell.specs.Serving.{answer_to, tables_after, entries_of}
-use Rattle.shell.proofs.LineLemmas.{only_start}
+use Rattle.shell.proofs.LineLemmas.{only_start, unchanged}
 use Rattle.shell.specs.Walk.{Steps}
 use Rattle.shell.specs.LineServed.{IsSure, IsBefore, DidNothing, IsInDoubt, IsEarlyStop, IsCommitStop, StopCounts, DoesLine}
 
@@ -65,6 +65,7 @@ module _ (number : ℕ) (name : List ℕ) (old new : StoreValue) (before now : H
     history = has.history ∙ ap (λ (l : List Entry). old.history ++ l) (sym entries_are);
     halts = λ f. tt;
     stops = tt;
+    unasked = tt;
     leaves = shows alters;
     rests = λ h rests. alters.rests h rests;
   }
@@ -88,6 +89,7 @@ module _ (number : ℕ) (name : List ℕ) (old new : StoreValue) (before now : H
     history = tt;
     halts = λ f. halts_at f stop (alters.tried f) why untouched;
     stops = stops_so stop why;
+    unasked = λ own. unchanged (untouched own);
     leaves = shows alters;
     rests = λ h rests. tt;
   }
@@ -97,6 +99,7 @@ module _ (number : ℕ) (name : List ℕ) (old new : StoreValue) (before now : H
         why = why;
         history = history;
         doubt = doubt;
+        same = unchanged same;
         said = ap (λ (s : HostState). s.said) same;
         kept = subst (λ (s : HostState). IsKept s.files old.tables) (sym same) (sure.kept f);
         leaves = λ h rests. subst (λ (s : HostState). LeavesOnly (IsBefore old.tables before.said) before s) (sym same) (only_start sound h rests (record { kept = sure.kept f; said_is = refl }));

@@ -2,7 +2,7 @@
 use Rattle.std.proofs.Common.{◌≡◌, ◌⊎◌, inl, inr, ⊎_elim, ℕ, Bool, true, false, cond, List, [], ◌∷◌, Result, Ok, Err, IfErr, sym, ◌∙◌, ap}
 use Rattle.std.specs.Option.{option_to_list}
 use Rattle.host_model.specs.State.{HostState}
-use Rattle.host_model.specs.Calls.{Counted}
+use Rattle.host_model.specs.Calls.{Faulted}
 use Rattle.host_model.specs.declared.fault.HostFault.TheVariants.{Disk, Source, Sink, Memory}
 use Rattle.host_model.specs.declared.fault.Stop.{Stop}
 use Rattle.host_model.specs.declared.fault.Stop.TheVariants.{Host, Damaged, Full, NoMemory}
@@ -41,7 +41,7 @@ entry_line number (CreateTable name) tables entry is = at (is_taken name tables)
 entry_line number ListTables tables entry is = absurd (not_cons entry is)
 entry_line number Unbuilt tables entry is = absurd (not_cons entry is)
 
-commit_cause : (stop : Stop) (status : ℕ) (first now : HostState) → IsCommitStop stop → status ≡ status_for (Err stop) → StopCounts stop first now → ((status ≡ 4) × Counted Disk first.faults now.faults) ⊎ ((status ≡ 7) × Counted Memory first.faults now.faults)
+commit_cause : (stop : Stop) (status : ℕ) (first now : HostState) → IsCommitStop stop → status ≡ status_for (Err stop) → StopCounts stop first now → ((status ≡ 4) × Faulted Disk first now) ⊎ ((status ≡ 7) × Faulted Memory first now)
 commit_cause (Host Disk) status first now why is counts = inl (is, counts)
 commit_cause (Host Source) status first now why is counts = absurd why
 commit_cause (Host Sink) status first now why is counts = absurd why

@@ -8,7 +8,7 @@ use Rattle.host_model.specs.Leaves.{AllSettled}
 use Rattle.host_model.specs.declared.fault.HostFault.TheVariants.{Disk, Source, Sink, Memory}
 use Rattle.host_model.specs.declared.fault.Stop.{Stop}
 use Rattle.host_model.specs.declared.fault.Stop.TheVariants.{Host, Damaged, Full, NoMemory}
-use Rattle.host_model.proofs.CallsLemmas.{keeps-then, counted-then, still_faithful, still_honest}
+use Rattle.host_model.proofs.CallsLemmas.{keeps-then, faulted-then, still_faithful, still_honest}
 use Rattle.host_model.proofs.LeavesLemmas.{leaves_weaker, leaves_then}
 use Rattle.script_source.specs.Script.{lines_of}
 use Rattle.script_source.specs.Hearing.{Listens, TakesLine, MeetsLongLine, Takes, HearingStops}
@@ -74,7 +74,7 @@ module _ {first : HostState} {start : Station} {n : ℕ} {pending : List ℕ} {s
     mid_faithful f = still_faithful listens.keeps (still_faithful served.keeps f)
 
     counted : (stop : Stop) (later : HostState) → StopCounts stop mid later → StopCounts stop first later
-    counted (Host fault) later why = counted-then fault first.faults mid.faults later.faults (keeps-then served.keeps listens.keeps).counts why
+    counted (Host fault) later why = faulted-then (keeps-then served.keeps listens.keeps) why
     counted (Damaged name) later why = why
     counted Full later why = tt
     counted NoMemory later why = tt
@@ -112,7 +112,7 @@ module _ {first : HostState} {start : Station} {n : ℕ} {pending : List ℕ} {s
     stopped_hearing stop why f = inl (record { why = hearing stop why; done = done_at f (mid_files f); doubt = served.doubt; said = mid_said f })
 
     pub hearing_counts : (stop : Stop) → HearingStops stop now mid → StopCounts stop first mid
-    hearing_counts (Host fault) why = counted-then fault first.faults now.faults mid.faults served.keeps.counts why.1
+    hearing_counts (Host fault) why = faulted-then served.keeps why.1
     hearing_counts (Damaged name) why = why
     hearing_counts Full why = tt
     hearing_counts NoMemory why = tt

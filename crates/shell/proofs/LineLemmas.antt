@@ -14,11 +14,22 @@ use Rattle.table_store.specs.Kept.{IsKept}
 use Rattle.table_store.specs.StoreValue.{StoreValue, station_of}
 use Rattle.shell.specs.Serving.{answer_to, tables_after, entries_of}
 use Rattle.shell.specs.Walk.{Steps}
-use Rattle.shell.specs.LineServed.{IsSure, DoesLine}
+use Rattle.shell.specs.LineServed.{IsSure, IsUnchanged, DoesLine}
 
 -- nothing is asked of the host
 pub only_start : {kind : Picture → Type 0} {state : HostState} → IsSound state → IsTrue state.is_honest → AllSettled state → kind (picture_now state) → LeavesOnly kind state state
 only_start {kind} sound honest rests start = leaves_start kind sound honest (λ p now. subst kind (sym (rests_shows sound honest rests p now)) start)
+
+-- a host that is the same is at the same moment
+pub unchanged : {before now : HostState} → now ≡ before → IsUnchanged before now
+unchanged same = record {
+  files = ap (λ (s : HostState). s.files) same;
+  said = ap (λ (s : HostState). s.said) same;
+  script = ap (λ (s : HostState). s.script) same;
+  faults = ap (λ (s : HostState). s.faults) same;
+  found = ap (λ (s : HostState). s.before) same;
+  moment = ap (λ (s : HostState). s.moment) same;
+}
 
 module _ (number : ℕ) (line : Line) (store : StoreValue) (state : HostState) (sound : IsSound state) (sure : IsSure store state) where
   shows_now : IsTrue state.is_honest → AllSettled state → LeavesOnly (Shows (λ image. IsKept image store.tables ⊎ IsKept image (tables_after line store.tables)) state.said) state state
@@ -36,6 +47,7 @@ module _ (number : ℕ) (line : Line) (store : StoreValue) (state : HostState) (
     history = sym (append-nil store.history) ∙ ap (λ l. store.history ++ l) (sym entries);
     halts = λ f. tt;
     stops = tt;
+    unasked = tt;
     leaves = shows_now;
     rests = λ h rests. rests;
   }
@@ -50,8 +62,9 @@ module _ (number : ℕ) (line : Line) (store : StoreValue) (state : HostState) (
     doubt = tt;
     steps = tt;
     history = tt;
-    halts = λ f. inl (record { why = tt; history = refl; doubt = doubt; said = refl; kept = sure.kept f; leaves = λ h rests. only_start sound h rests (record { kept = sure.kept f; said_is = refl }) });
+    halts = λ f. inl (record { why = tt; history = refl; doubt = doubt; same = unchanged refl; said = refl; kept = sure.kept f; leaves = λ h rests. only_start sound h rests (record { kept = sure.kept f; said_is = refl }) });
     stops = tt;
+    unasked = λ u. unchanged refl;
     leaves = shows_now;
     rests = λ h rests. tt;
   }

@@ -8,7 +8,7 @@ use Rattle.host_model.specs.Calls.{IsSound, Keeps, IsQuiet, Looks}
 use Rattle.host_model.specs.Leaves.{LeavesOnly, AllSettled}
 use Rattle.host_model.specs.declared.fault.Stop.{Stop}
 use Rattle.host_model.specs.declared.fault.Stop.TheVariants.{Host, Damaged, Full, NoMemory}
-use Rattle.host_model.proofs.CallsLemmas.{keeps-then, counted-then, still_faithful, still_honest, was_faithful, on_ok_of}
+use Rattle.host_model.proofs.CallsLemmas.{keeps-then, faulted-then, still_faithful, still_honest, was_faithful, on_ok_of}
 use Rattle.host_model.proofs.LeavesLemmas.{leaves_weaker, leaves_then, same_leave, rests_after_same}
 use Rattle.table_store.specs.Tables.{Tables, no_tables}
 use Rattle.table_store.specs.Room.{Station, IsNewStation}
@@ -119,7 +119,7 @@ counts_since (Ok ending) first mid now keeps why = tt
 counts_since (Err stop) first mid now keeps why = at stop why
   where
     at : (stop : Stop) → StopCounts stop mid now → StopCounts stop first now
-    at (Host fault) why = counted-then fault first.faults mid.faults now.faults keeps.counts why
+    at (Host fault) why = faulted-then keeps why
     at (Damaged name) why = why
     at Full why = tt
     at NoMemory why = tt

@@ -8,18 +8,24 @@ use Rattle.host_model.specs.Leaves.{LeavesOnly, Shows, Told, AllSettled}
 use Rattle.host_model.specs.declared.fault.HostFault.{HostFault}
 use Rattle.host_model.specs.declared.fault.HostFault.TheVariants.{Disk, Source, Sink, Memory}
 use Rattle.host_model.specs.declared.fault.Stop.{Stop}
-use Rattle.host_model.specs.declared.fault.Stop.TheVariants.{Host, NoMemory}
-use Rattle.host_model.proofs.CallsLemmas.{keeps-then, counted-then, still_faithful, still_honest, was_faithful}
+use Rattle.host_model.specs.declared.fault.Stop.TheVariants.{Host, Full, NoMemory}
+use Rattle.host_model.proofs.CallsLemmas.{keeps-then, faulted-then, still_faithful, still_honest, was_faithful}
 use Rattle.host_model.proofs.LeavesLemmas.{leaves_weaker, leaves_then, says_leave, rests_after_say}
 use Rattle.node_store.specs.Image.{IsStored}
 use Rattle.script_words.specs.declared.line.Line.{Line}
 use Rattle.script_words.specs.declared.reply.Answer.{Answer}
 use Rattle.script_words.specs.Replies.{reply_of}
 use Rattle.table_store.specs.Kept.{IsKept}
-use Rattle.table_store.specs.StoreValue.{StoreValue}
+use Rattle.table_store.specs.StoreValue.{StoreValue, IsUnasked}
 use Rattle.shell.specs.Serving.{spelled, tables_after, reply_to}
 use Rattle.shell.specs.LineServed.{IsLinePicture, IsReplyStop, DoesLine, ServesLine}
 use Rattle.shell.proofs.WalkLemmas.{steps-tables}
+
+not_full : ◌≡◌ {A = Stop} NoMemory Full → ⊥
+not_full is = cc
+
+no_fault_full : (fault : HostFault) → ◌≡◌ {A = Stop} (Host fault) Full → ⊥
+no_fault_full fault is = cc
 
 module _ (number : ℕ) (line : Line) (old new : StoreValue) (before mid : HostState) where
   -- nothing of the reply was said
@@ -43,6 +49,7 @@ module _ (number : ℕ) (line : Line) (old new : StoreValue) (before mid : HostS
     said = λ f. tt;
     halts = λ f. ⊎_elim (λ none. inl none) (λ doubt. inr (inl doubt)) (does.halts f);
     stops = does.stops;
+    full = λ is. does.unasked (subst (λ (s : Stop). IsUnasked s) (sym is) tt);
     leaves = λ h rests. leaves_weaker (does.leaves h rests) silent;
     rests = λ h rests. tt;
   }
@@ -60,6 +67,7 @@ module _ (number : ℕ) (line : Line) (old new : StoreValue) (before mid : HostS
     said = λ f. does.quiet.said f ∙ sym (append-nil before.said) ∙ ap (λ (a : Option Answer). before.said ++ spelled number a) does.answer;
     halts = λ f. tt;
     stops = tt;
+    full = tt;
     leaves = λ h rests. leaves_weaker (does.leaves h rests) silent;
     rests = does.rests;
   }
@@ -81,6 +89,7 @@ module _ (number : ℕ) (line : Line) (old new : StoreValue) (before mid : HostS
       said = λ f. tt;
       halts = λ f. inr (inr (record { why = tt; steps = does.steps; history = does.history; doubt = does.doubt; count = 0; said = does.quiet.said f ∙ sym (append-nil before.said); kept = after_kept f }));
       stops = tt;
+      full = λ is. absurd (not_full is);
       leaves = λ h rests. leaves_weaker (does.leaves h rests) silent;
       rests = λ h rests. tt;
     }
@@ -115,6 +124,7 @@ module _ (number : ℕ) (line : Line) (old new : StoreValue) (before mid : HostS
         said = λ f. says.done (still_faithful does.quiet.keeps f) ∙ ap (λ l. l ++ reply) (does.quiet.said f) ∙ ap (λ l. before.said ++ l) reply_is;
         halts = λ f. tt;
         stops = tt;
+        full = tt;
         leaves = all_leaves says;
         rests = λ h rests. rests_after_say (still_honest does.quiet.keeps h) (still_faithful does.quiet.keeps (sound.faithful h)) says (does.rests h rests);
       }
@@ -147,7 +157,8 @@ module _ (number : ℕ) (line : Line) (old new : StoreValue) (before mid : HostS
               said = tried.said ∙ ap (λ l. l ++ take tried.count reply) (does.quiet.said f) ∙ ap (λ l. before.said ++ take tried.count l) reply_is;
               kept = subst (λ i. IsKept i (tables_after line old.tables)) (sym (says.same at).0) (after_kept f);
             }));
-        stops = counted-then fault before.faults mid.faults now.faults does.quiet.keeps.counts says.counted.1;
+        stops = faulted-then does.quiet.keeps says.counted.1;
+        full = λ is. absurd (no_fault_full fault is);
         leaves = all_leaves says;
         rests = λ h rests. tt;
       }

@@ -2,7 +2,7 @@
 use Rattle.std.specs.Prelude.{◌≡◌, ◌⊎◌, ℕ, ◌+◌, ◌≤◌, Bool, true, false, List, ◌++◌, All, Some, slice_get, option_to_list}
 use Rattle.host_model.specs.Picture.{Image, Picture}
 use Rattle.host_model.specs.State.{HostState}
-use Rattle.host_model.specs.Calls.{Counted}
+use Rattle.host_model.specs.Calls.{Faulted}
 use Rattle.host_model.specs.Leaves.{LeavesOnly}
 use Rattle.host_model.specs.declared.fault.HostFault.TheVariants.{Disk, Memory}
 use Rattle.script_source.specs.Script.{lines_of}
@@ -59,9 +59,9 @@ pub record AreOfLines (first : HostState) (tables : Tables) (entries : List Entr
   pub last : PlainState
   pub applied : after entries (plain_of tables) ≡ Some last
 
--- an entry is in doubt only after a fault of the disk or of the host's memory, which stopped its line, and none of the line's reply was said
+-- an entry is in doubt only after a fault of the disk or of the host's memory, which the last call answered, and none of the line's reply was said
 pub record IsRightlyInDoubt (first : HostState) (tables : Tables) (outcome : Outcome) (now : HostState) (entry : Entry) : Type 0 where
-  pub cause : ((outcome.status ≡ 4) × Counted Disk first.faults now.faults) ⊎ ((outcome.status ≡ 7) × Counted Memory first.faults now.faults)
+  pub cause : ((outcome.status ≡ 4) × Faulted Disk first now) ⊎ ((outcome.status ≡ 7) × Faulted Memory first now)
   pub line_is : entry.line ≡ outcome.lines
   pub before : ℕ
   pub last : outcome.lines ≡ before + 1

@@ -2,7 +2,7 @@
 use Rattle.std.specs.Prelude.{◌≡◌, ◌⊎◌, ℕ, List, [], ◌++◌, take, None, Result, IsTrue, IfErr, IfOk, OnOk, Option}
 use Rattle.host_model.specs.Picture.{Picture}
 use Rattle.host_model.specs.State.{HostState}
-use Rattle.host_model.specs.Calls.{Keeps, IsQuiet, Counted}
+use Rattle.host_model.specs.Calls.{Keeps, IsQuiet, Faulted}
 use Rattle.host_model.specs.Leaves.{LeavesOnly, Shows, AllSettled}
 use Rattle.host_model.specs.declared.fault.HostFault.TheVariants.{Disk, Source, Sink, Memory}
 use Rattle.host_model.specs.declared.fault.Stop.{Stop}
@@ -13,7 +13,7 @@ use Rattle.script_words.specs.declared.reply.Answer.{Answer}
 use Rattle.table_store.specs.Tables.{Tables}
 use Rattle.table_store.specs.Room.{Station}
 use Rattle.table_store.specs.Kept.{IsKept}
-use Rattle.table_store.specs.StoreValue.{StoreValue, station_of}
+use Rattle.table_store.specs.StoreValue.{StoreValue, IsUnasked, station_of}
 use Rattle.shell.specs.Serving.{answer_to, tables_after, entries_of, reply_to}
 use Rattle.shell.specs.Walk.{Steps, LacksRoom}
 
@@ -64,20 +64,30 @@ IsReplyStop (Damaged name) = ⊥
 IsReplyStop Full = ⊥
 IsReplyStop NoMemory = Unit {0}
 
--- a fault of the host is counted, and none other than its own faults, want of room and of memory comes
+-- a fault of the host is counted, and the last call is the one that failed; and none other than its own faults, want of room and of memory comes
 abbrev pub StopCounts : Stop → HostState → HostState → Type 0
-StopCounts (Host fault) before now = Counted fault before.faults now.faults
+StopCounts (Host fault) before now = Faulted fault before now
 StopCounts (Damaged name) before now = ⊥
 StopCounts Full before now = Unit {0}
 StopCounts NoMemory before now = Unit {0}
 
+-- the host was asked nothing: it is as it was, at the same moment
+pub record IsUnchanged (before now : HostState) : Type 0 where
+  pub files : now.files ≡ before.files
+  pub said : now.said ≡ before.said
+  pub script : now.script ≡ before.script
+  pub faults : now.faults ≡ before.faults
+  pub found : now.before ≡ before.before
+  pub moment : now.moment ≡ before.moment
+
 -- ---- where it stops
 
--- the line did nothing
+-- the line did nothing, and asked nothing of the host
 pub record DidNothing (stop : Stop) (line : Line) (old new : StoreValue) (before now : HostState) : Type 0 where
   pub why : IsEarlyStop stop line (station_of old)
   pub history : new.history ≡ old.history
   pub doubt : new.doubt ≡ []
+  pub same : IsUnchanged before now
   pub said : now.said ≡ before.said
   pub kept : IsKept now.files old.tables
   pub leaves : IsTrue before.is_honest → AllSettled before → LeavesOnly (IsBefore old.tables before.said) before now
@@ -116,6 +126,8 @@ pub record DoesLine (number : ℕ) (line : Line) (result : Result (Option Answer
   pub history : OnOk result (new.history ≡ old.history ++ entries_of number line old.tables)
   pub halts : IsTrue before.is_faithful → IfErr result (λ stop. DidNothing stop line old new before now ⊎ IsInDoubt stop number line old new before now)
   pub stops : IfErr result (λ stop. StopCounts stop before now)
+  -- for want of room or memory nothing is asked of any host
+  pub unasked : IfErr result (λ stop. IsUnasked stop → IsUnchanged before now)
   pub leaves : IsTrue before.is_honest → AllSettled before → LeavesOnly (Shows (λ image. IsKept image old.tables ⊎ IsKept image (tables_after line old.tables)) before.said) before now
   pub rests : IsTrue before.is_honest → AllSettled before → OnOk result (AllSettled now)
 
@@ -130,5 +142,7 @@ pub record ServesLine (number : ℕ) (line : Line) {T : Type 0} (result : Result
   pub said : IsTrue before.is_faithful → OnOk result (now.said ≡ before.said ++ reply_to number line old.tables)
   pub halts : IsTrue before.is_faithful → IfErr result (λ stop. LineHalts stop number line old new before now)
   pub stops : IfErr result (λ stop. StopCounts stop before now)
+  -- a line that lacks room asks nothing of any host
+  pub full : IfErr result (λ stop. stop ≡ Full → IsUnchanged before now)
   pub leaves : IsTrue before.is_honest → AllSettled before → LeavesOnly (IsLinePicture number line old.tables before.said) before now
   pub rests : IsTrue before.is_honest → AllSettled before → OnOk result (AllSettled now)

@@ -9,7 +9,7 @@ use plain_model::{Entries, Entry};
 /// | 0 | the script was read to its end |
 /// | 2 | the words are of no form |
 /// | 3 | a line is too long, or one too many |
-/// | 4, 5, 6 | a fault of the disk, of the source or of the sink |
+/// | 4, 5, 6 | a fault of the disk, of the source or of the sink, answered by the last call of the host |
 /// | 7 | want of memory |
 /// | 8 | there is no store, or one where a new one was to be made |
 /// | 9 | the file `damaged` isn't there or isn't in its grammar |

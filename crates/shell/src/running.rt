@@ -43,6 +43,7 @@ pub fn dir_of(alloc: Global, words: &Words) -> Result<Option<Octets>, AllocError
 }
 
 /// Reads the words, opens the store or makes it, and serves the script, over a host that it hands back.
+/// Where a call of the host fails, it is the last one.
 pub fn run<H: Host>(alloc: Global, words: &Words, mut host: H) -> (Outcome, H)
     ensures usage { IsUsage words.now → (result.0 ≡ unbegun 2 None) × (result.1 ≡ host) }
     ensures runs { (form : StoreForm) → IsStoreForm words.now form → RunsStore form.init (H.state host) result.0 (H.state result.1) ⊎ HasNoMemory result.0 host result.1 }

@@ -17,7 +17,7 @@ returns-in_err-script-clause-ended g c =
 pub returns-in_err-next_line-clause-ended : goal.returns-in_err-next_line-clause-ended
 returns-in_err-next_line-clause-ended g c =
     let p = err_from_is_err_and c.from_residual-in_err-next_line.result c.from_residual-in_err-next_line.ensures.1 in
-    rw (p.1, p.2) (λ f. stopped_hearing (g.met.H.Host.sound c.args.host.now) (g.met.H.Host.sound c.loop-number.host) c.loop-number.invariant.served c.in_err-next_line.ensures.listens _ c.in_err-next_line.ensures.stops f)
+    rw (p.1, p.2) (λ f. stopped_hearing (g.met.H.Host.sound c.args.host.now) (g.met.H.Host.sound c.loop-number.host) c.loop-number.invariant.served c.in_err-next_line.ensures.listens _ (c.in_err-next_line.ensures.stops c.loop-number.invariant.hearing) f)
 
 pub returns-in_err-next_line-clause-crash : goal.returns-in_err-next_line-clause-crash
 returns-in_err-next_line-clause-crash g c = fronts (g.met.H.Host.sound c.args.host.now) (g.met.H.Host.sound c.loop-number.host) c.loop-number.invariant.served c.in_err-next_line.ensures.listens
@@ -66,13 +66,14 @@ loop-number-preserved g c =
     let few : c.loop-number.lines + 1 ≤ 100000 = omega (arith, c.loop-number-test.true, c.loop-number.invariant.next) in
     record {
       next = refl;
+      hearing = c.in_ok-next_line.ensures.running;
       served = rw c.loop-number.invariant.next (served_more (g.met.H.Host.sound c.args.host.now) (g.met.H.Host.sound c.loop-number.host) c.loop-number.invariant.served c.in_ok-next_line.ensures.listens (g.met.H.Host.sound c.next_line.new.host) takes _ c.loop-number.invariant.next few c.in_ok-serve_line-in-Line.ensures);
     }
 
 pub returns-in_err-next_line-2-clause-ended : goal.returns-in_err-next_line-2-clause-ended
 returns-in_err-next_line-2-clause-ended g c =
     let p = err_from_is_err_and c.from_residual-in_err-next_line-2.result c.from_residual-in_err-next_line-2.ensures.1 in
-    rw (p.1, p.2) (λ f. stopped_hearing (g.met.H.Host.sound c.args.host.now) (g.met.H.Host.sound c.loop-number.host) c.loop-number.invariant.served c.in_err-next_line-2.ensures.listens _ c.in_err-next_line-2.ensures.stops f)
+    rw (p.1, p.2) (λ f. stopped_hearing (g.met.H.Host.sound c.args.host.now) (g.met.H.Host.sound c.loop-number.host) c.loop-number.invariant.served c.in_err-next_line-2.ensures.listens _ (c.in_err-next_line-2.ensures.stops c.loop-number.invariant.hearing) f)
 
 pub returns-in_err-next_line-2-clause-crash : goal.returns-in_err-next_line-2-clause-crash
 returns-in_err-next_line-2-clause-crash g c = fronts (g.met.H.Host.sound c.args.host.now) (g.met.H.Host.sound c.loop-number.host) c.loop-number.invariant.served c.in_err-next_line-2.ensures.listens
