@@ -37,6 +37,7 @@ fn tells_the_fault_of_each_call(rt: HostRuntime) -> Result<(), Fail> {
     for call in 1..=calls {
         let ended = fails_at(rt.alloc(), call)?;
         assert!(rt; tells_its_fault(&ended), "failed at call {call}");
+        assert_eq!(rt; ended.host.calls(), call, "asked behind the fault");
     }
     Ok(())
 }
