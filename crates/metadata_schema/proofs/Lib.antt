@@ -3,3 +3,9 @@ pub mod MergeLemmas
 pub mod RisingLemmas
 pub mod LawsLemmas
 pub mod OneToOne
+pub mod NumberLemmas
+pub mod PathLemmas
+pub mod ReadingLemmas
+pub mod PartsLemmas
+pub mod RecordLemmas
+pub mod AcceptedLemmas

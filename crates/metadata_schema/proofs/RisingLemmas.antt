@@ -124,7 +124,7 @@ mapped_rising column key alike (x ∷ xs) rising =
     and_from (list_all (λ other. is_lt (update_cmp (column x) other)) (map column xs)) (is_rising update_cmp (map column xs))
     (mapped_above column key alike x xs parts.0) (mapped_rising column key alike xs parts.1)
 
-logs_alike : (logs : List (List ℕ)) → map (λ (log : List ℕ). log) logs ≡ logs
+pub logs_alike : (logs : List (List ℕ)) → map (λ (log : List ℕ). log) logs ≡ logs
 logs_alike [] = refl
 logs_alike (log ∷ logs) = ap (λ (more : List (List ℕ)). log ∷ more) (logs_alike logs)
 

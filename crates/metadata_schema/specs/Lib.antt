@@ -1,8 +1,10 @@
 pub mod Bytes
 pub mod Paths
 pub mod Values
+pub mod Kinds
 pub mod Columns
 pub mod Records
+pub mod Refusals
 pub mod Between
 pub mod State
 pub mod Merging

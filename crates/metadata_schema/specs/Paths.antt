@@ -1,6 +1,7 @@
 -- The directories and paths of data files.
 use Rattle.std.specs.Prelude.{◌≡◌, ◌⊎◌, ℕ, ◌<◌, ◌==◌, ◌||◌, Bool, List, ◌∷◌, ◌++◌, length, IsTrue, codes}
 use Rattle.row_keys.specs.Forms.{is_between, HasBytes, IsTableId}
+use Rattle.metadata_schema.specs.Bytes.{same}
 
 -- a digit of upper-case base 36
 abbrev pub is_base36 : ℕ → Bool
@@ -10,6 +11,10 @@ is_base36 byte = is_between 48 57 byte || is_between 65 90 byte
 pub record IsDrawnText (text : List ℕ) : Type 0 where
   pub form : HasBytes 7 13 is_base36 text
   pub plain : (rest : List ℕ) → text ≡ 48 ∷ rest → length rest < 7
+
+-- `root_tablet`, `table_info` or `default_tablet`, as a test
+abbrev pub is_fixed : List ℕ → Bool
+is_fixed dir = same dir (codes "root_tablet") || same dir (codes "table_info") || same dir (codes "default_tablet")
 
 -- `root_tablet`, `table_info`, `default_tablet`, or `t-` and a drawn number
 abbrev pub IsDirectory : List ℕ → Type 0

@@ -7,11 +7,15 @@ mod between;
 mod fault;
 mod files;
 mod holders;
+mod kind;
 mod laws;
 mod loaded;
 mod logs;
 mod mutation;
 mod numbers;
+mod parts;
+mod paths;
+mod reading;
 mod singles;
 mod state;
 mod tablet;
@@ -26,6 +30,7 @@ pub use laws::{
     records_are_one_to_one, updates_lead_to_the_new_columns,
 };
 pub use mutation::{Mutation, Update, Updates};
+pub use reading::record_of;
 pub use state::{TabletState, tablet_state};
 pub use tablet::{
     FileEntries, FileEntry, Holder, LoadedEntries, LoadedEntry, LogNames, TabletRecord,
