@@ -176,8 +176,8 @@ one_loc t =
 pub one_future : (t : TabletRecord) → length (of_family (codes "future") (columns_of t)) ≤ 1
 one_future t =
     let none : of_family (codes "future") (from_loaded t) ≡ [] =
-        none_of (codes "future") (codes "loaded") (map loaded_column t.loaded) _ (mapped_within (codes "loaded") loaded_column (λ x. refl) t.loaded) refl
-        ∙ none_of (codes "future") (codes "loc") (holder_columns (codes "loc") t.loc) _ (holder_within _ _) refl ∙ no_more (codes "future") t refl refl refl in
+    none_of (codes "future") (codes "loaded") (map loaded_column t.loaded) _ (mapped_within (codes "loaded") loaded_column (λ x. refl) t.loaded) refl
+    ∙ none_of (codes "future") (codes "loc") (holder_columns (codes "loc") t.loc) _ (holder_within _ _) refl ∙ no_more (codes "future") t refl refl refl in
     subst (λ (l : List Update). length l ≤ 1) (sym (past_files (codes "future") t refl refl)) (one_holder (codes "future") t.future (from_loaded t) none)
 
 -- ---- the columns that are always there
@@ -215,7 +215,7 @@ columns_given_all t form = record { written = given_all (columns_of t) (columns_
 pub prev_there : (t : TabletRecord) → HasPrev (columns_of t)
 prev_there t = record {
   prev = there (columns_of t) (codes "~tab") (codes "~pr") (prev_value t.prev)
-  (past_logs (codes "~tab") (codes "~pr") t refl refl refl refl refl refl ∙ prev_stands (option_map decimal t.merged) (option_map prev_value t.old_prev) (prev_value t.prev));
+      (past_logs (codes "~tab") (codes "~pr") t refl refl refl refl refl refl ∙ prev_stands (option_map decimal t.merged) (option_map prev_value t.old_prev) (prev_value t.prev));
 }
 
 pub columns_named : (t : TabletRecord) → IsWellFormed t → HasColumns (columns_of t)

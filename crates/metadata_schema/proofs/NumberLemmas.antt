@@ -55,8 +55,7 @@ entries_parted front back text parted is = at is.time is.is.small_time is.is.is
 -- what stands before the first comma is the size
 pub facts_parted : (front back value : List ℕ) → IsParted 44 front back value → IsFileValue value → IsNumberText front × IsEntriesText back
 facts_parted front back value parted is =
-    let cut = parted_once 44 front (decimal is.size) back (decimal is.entries ++ time_part is.time) parted.free (decimal_free is.size is.facts.small_size) (sym parted.is ∙ is.is) in
-    (
+    let cut = parted_once 44 front (decimal is.size) back (decimal is.entries ++ time_part is.time) parted.free (decimal_free is.size is.facts.small_size) (sym parted.is ∙ is.is) in (
       record { number = is.size; small = is.facts.small_size; is = cut.0 },
       record { entries = is.entries; time = is.time; is = record { few_entries = is.facts.few_entries; small_time = is.facts.small_time; is = cut.1 } },
     )

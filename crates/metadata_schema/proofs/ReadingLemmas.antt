@@ -54,10 +54,10 @@ pub only_there : (family : List ℕ) (us : List Update) (i : ℕ) (u : Update) �
 only_there family us i u within is none named one =
     let test : Update → Bool = λ v. same v.family family in
     let more : filter test (take (i + 1) us) ≡ u ∷ [] =
-        filter_more test us i u within ∙ ap (λ (v : Update). filter test (take i us) ++ cond (test v) (v ∷ []) []) (sym is)
-        ∙ ap (λ (l : List Update). l ++ cond (test u) (u ∷ []) []) none ∙ ap (λ (b : Bool). cond b (u ∷ []) []) named in
+    filter_more test us i u within ∙ ap (λ (v : Update). filter test (take i us) ++ cond (test v) (v ∷ []) []) (sym is)
+    ∙ ap (λ (l : List Update). l ++ cond (test u) (u ∷ []) []) none ∙ ap (λ (b : Bool). cond b (u ∷ []) []) named in
     let all : filter test us ≡ u ∷ filter test (drop (i + 1) us) =
-        ap (filter test) (sym (take-append-drop (i + 1) us)) ∙ filter-append test (take (i + 1) us) (drop (i + 1) us) ∙ ap (λ (l : List Update). l ++ filter test (drop (i + 1) us)) more in
+    ap (filter test) (sym (take-append-drop (i + 1) us)) ∙ filter-append test (take (i + 1) us) (drop (i + 1) us) ∙ ap (λ (l : List Update). l ++ filter test (drop (i + 1) us)) more in
     let long : length (filter test us) ≡ length (u ∷ filter test (drop (i + 1) us)) = ap length all in
     let empty : length (filter test (drop (i + 1) us)) ≡ 0 = omega (arith, long, one) in
     all ∙ ap (λ (l : List Update). u ∷ l) (nil_from_length (filter test (drop (i + 1) us)) empty)
@@ -68,8 +68,8 @@ pub read_more : {X : Type 0} (column : X → Update) (family : List ℕ) (us : L
 read_more {X = X} column family us i u xs x within is named read so_far =
     let test : Update → Bool = λ v. same v.family family in
     let more : filter test (take (i + 1) us) ≡ filter test (take i us) ++ u ∷ [] =
-        filter_more test us i u within ∙ ap (λ (v : Update). filter test (take i us) ++ cond (test v) (v ∷ []) []) (sym is)
-        ∙ ap (λ (b : Bool). filter test (take i us) ++ cond b (u ∷ []) []) named in
+    filter_more test us i u within ∙ ap (λ (v : Update). filter test (take i us) ++ cond (test v) (v ∷ []) []) (sym is)
+    ∙ ap (λ (b : Bool). filter test (take i us) ++ cond b (u ∷ []) []) named in
     pushed xs ∙ ap (λ (l : List Update). l ++ column x ∷ []) so_far ∙ ap (λ (v : Update). filter test (take i us) ++ v ∷ []) read ∙ sym more
   where
     pushed : (l : List X) → map column (l ++ x ∷ []) ≡ map column l ++ column x ∷ []

@@ -1,5 +1,5 @@
 -- Records whose columns are of the table.
-use Rattle.std.specs.Prelude.{◌≡◌, ℕ, ◌<◌, ◌≤◌, ◌^◌, List, length, map, IsTrue, IfSome}
+use Rattle.std.specs.Prelude.{◌≡◌, ℕ, ◌<◌, ◌≤◌, ◌^◌, List, [], Option, None, false, length, map, IsTrue, IfSome}
 use Rattle.std.specs.List.{All}
 use Rattle.row_keys.specs.Forms.{IsSessionId, IsLogName, IsServerName}
 use Rattle.row_keys.specs.MetadataRow.{IsMetadataRow}
@@ -51,3 +51,21 @@ pub record IsRecordOf (row : List ℕ) (columns : List Update) (tablet : TabletR
   pub named : IsMetadataRow tablet.table tablet.end row
   pub spelled : columns ≡ columns_of tablet
   pub form : IsWellFormed tablet
+
+-- a tablet with nothing in it
+abbrev pub new_tablet : List ℕ → Option (List ℕ) → Option (List ℕ) → List ℕ → TabletRecord
+new_tablet table end prev dir = record {
+  table = table;
+  end = end;
+  prev = prev;
+  old_prev = None;
+  dir = dir;
+  time = 0;
+  loc = None;
+  future = None;
+  files = [];
+  logs = [];
+  loaded = [];
+  chopped = false;
+  merged = None;
+}

@@ -89,12 +89,7 @@ fn is_qualifier(kind: Kind, qualifier: &[u8]) -> bool
         Kind::File | Kind::Loaded => is_file_path(qualifier),
         Kind::Loc | Kind::Future => SessionIdForm::accepts(qualifier),
         Kind::Log => LogNameForm::accepts(qualifier),
-        Kind::Chopped
-        | Kind::Dir
-        | Kind::Time
-        | Kind::Merged
-        | Kind::OldPrev
-        | Kind::Prev => true,
+        Kind::Chopped | Kind::Dir | Kind::Time | Kind::Merged | Kind::OldPrev | Kind::Prev => true,
     }
 }
 

@@ -16,6 +16,8 @@ mod numbers;
 mod parts;
 mod paths;
 mod reading;
+#[cfg(test)]
+mod reading_tests;
 mod singles;
 mod state;
 mod tablet;
@@ -26,8 +28,9 @@ mod writing;
 pub use between::updates_between;
 pub use fault::SchemaFault;
 pub use laws::{
-    columns_are_in_order, numbers_have_one_spelling, paths_have_one_spelling,
-    records_are_one_to_one, updates_lead_to_the_new_columns,
+    columns_are_in_order, columns_of_records_are_read, new_tablets_are_well_formed,
+    numbers_have_one_spelling, paths_have_one_spelling, records_are_one_to_one,
+    rows_have_one_record, updates_lead_to_the_new_columns,
 };
 pub use mutation::{Mutation, Update, Updates};
 pub use reading::record_of;

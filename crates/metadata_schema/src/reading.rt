@@ -111,11 +111,7 @@ fn read_columns(alloc: Global, row: &Row, updates: &[Update]) -> Result<TabletRe
 /// exactly where a column is none of a tablet's, or a second `loc` or `future` is there; else `BadValue` exactly where a value isn't
 /// of its form, or `srv:dir` or `srv:time` isn't there. Beside them comes `NoMemory` alone. Takes memory for the record, and time
 /// with the bytes of the columns.
-pub fn record_of(
-    alloc: Global,
-    row: &Row,
-    updates: &[Update],
-) -> Result<TabletRecord, SchemaFault>
+pub fn record_of(alloc: Global, row: &Row, updates: &[Update]) -> Result<TabletRecord, SchemaFault>
     requires row { IsTabletRow row.now }
     requires columns { AreColumns updates.now }
     ensures ok { IfOk result (IsRecordOf row.now updates.now) }

@@ -74,10 +74,7 @@ pub(crate) fn read_chopped(value: Option<&[u8]>) -> Result<bool, SchemaFault>
 }
 
 /// The transaction of a merge, where its column is there.
-pub(crate) fn read_merged(
-    alloc: Global,
-    value: Option<&[u8]>,
-) -> Result<Option<u64>, SchemaFault>
+pub(crate) fn read_merged(alloc: Global, value: Option<&[u8]>) -> Result<Option<u64>, SchemaFault>
     ensures { MatchResult result (λ tid. (option_copied value.entry ≡ option_map decimal tid) × IfSome tid (λ number. number < 2 ^ 64)) (Refuses (IfSome (option_copied value.entry) IsNumberText)) }
 {
     match value {

@@ -23,8 +23,7 @@ pub returns-in_ok-holder-in-Some : goal.returns-in_ok-holder-in-Some
 returns-in_ok-holder-in-Some c =
     let u = c.in-Some.update.now in
     let h = c.in_ok-holder-in-Some.holder in
-    let family = only_family c.args.family.now c.args.updates.now u c.in-Some.ensures in
-    (
+    let family = only_family c.args.family.now c.args.updates.now u c.in-Some.ensures in (
       ap (λ (f : List ℕ). written f h.session h.server ∷ []) (sym family) ∙ ap (λ (v : Update). v ∷ []) c.in_ok-holder-in-Some.ensures.0 ∙ sym c.in-Some.ensures,
       c.in_ok-holder-in-Some.ensures.1,
     )
