@@ -1,11 +1,15 @@
 pub mod OrderLemmas
+pub mod GivenLemmas
 pub mod MergeLemmas
 pub mod RisingLemmas
 pub mod LawsLemmas
+pub mod SameColumns
+pub mod SameLists
 pub mod OneToOne
-pub mod NumberLemmas
 pub mod PathLemmas
+pub mod NumberLemmas
 pub mod ReadingLemmas
 pub mod PartsLemmas
 pub mod RecordLemmas
+pub mod FormLemmas
 pub mod AcceptedLemmas

@@ -14,6 +14,7 @@ use Rattle.metadata_schema.specs.Columns.{update_cmp, is_named, update_at}
 use Rattle.metadata_schema.specs.Between.{LeadsBetween}
 use Rattle.metadata_schema.specs.Merging.{removal_of, same_value, first_between, between_first, between}
 use Rattle.metadata_schema.proofs.OrderLemmas.{Above, above_more, above_same, same_column, greater_back, named_same, absent}
+use Rattle.metadata_schema.proofs.GivenLemmas.{IsGiven, AreGiven, given_at}
 
 abbrev Said : Type 0
 Said = Option (Option (List ℕ))
@@ -123,23 +124,6 @@ leads (old ∷ olds) news one two =
     leads_first old olds news (between olds) parts.0 (λ ns rising. leads olds ns parts.1 rising) two
 
 -- ---- columns, of which none is removed
-
-abbrev pub IsGiven : Said → Type 0
-IsGiven None = Unit {0}
-IsGiven (Some None) = ⊥
-IsGiven (Some (Some value)) = Unit {0}
-
-abbrev pub AreGiven : List Update → Type 0
-AreGiven [] = Unit {0}
-AreGiven (u ∷ us) = IsGiven (Some u.value) × AreGiven us
-
-pub given_at : (us : List Update) (f q : List ℕ) → AreGiven us → IsGiven (update_at us f q)
-given_at [] f q given = tt
-given_at (u ∷ us) f q given = at (is_named f q u) (given_at us f q given.1)
-  where
-    at : (b : Bool) → IsGiven (update_at us f q) → IsGiven (cond b (Some u.value) (update_at us f q))
-    at true rest = given.0
-    at false rest = rest
 
 kept_is : (x y out : Said) → IsGiven x → IsGiven y → out ≡ say x y → option_flatten x ≡ option_flatten y → out ≡ None
 kept_is None None out one two is alike = is

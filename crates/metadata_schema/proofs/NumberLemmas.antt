@@ -13,7 +13,7 @@ use Rattle.std.proofs.lemmas.Str.{IsUtf8-from_ascii}
 use Rattle.metadata_schema.specs.Bytes.{is_free, IsParted}
 use Rattle.metadata_schema.specs.Values.{time_part, file_value, IsNumberText, IsTimeText, IsFileValue, AreEntries, IsEntriesText}
 use Rattle.metadata_schema.proofs.LawsLemmas.{parted_once}
-use Rattle.metadata_schema.proofs.OneToOne.{decimal_free}
+use Rattle.metadata_schema.proofs.SameColumns.{decimal_free}
 use Rattle.metadata_schema.proofs.PathLemmas.{not_free}
 
 IsUtf8-decimal : (bytes : List ℕ) (number : ℕ) → number < 2 ^ 64 → bytes ≡ decimal number → IsUtf8 bytes

@@ -1,4 +1,4 @@
--- The columns of a record stand in order, and none of them is removed.
+-- The columns of a record stand in order.
 use Rattle.std.proofs.Common.{◌≡◌, ℕ, Bool, true, List, [], ◌∷◌, ◌++◌, map, Option, Some, None, Ordering, Less, IsTrue, refl, sym, ap, ◌∙◌, subst}
 use Rattle.std.specs.Prelude.{codes}
 use Rattle.std.specs.Ordering.{is_lt, ordering_then}
@@ -19,7 +19,6 @@ use Rattle.metadata_schema.specs.Values.{bar_value, chopped_value}
 use Rattle.metadata_schema.specs.Columns.{written, at_most_one, file_column, loaded_column, log_column, holder_columns, fixed_columns, columns_of, update_cmp}
 use Rattle.metadata_schema.specs.Records.{IsInOrder}
 use Rattle.metadata_schema.proofs.OrderLemmas.{Above, less_is}
-use Rattle.metadata_schema.proofs.MergeLemmas.{IsGiven, AreGiven}
 
 -- all are of later families
 abbrev pub Behind : List ℕ → List Update → Type 0
@@ -180,37 +179,3 @@ columns_rise t order =
     let files = files_tail t order in
     part_rises (codes "chopped") (at_most_one (codes "chopped") (codes "chopped") (chopped_value t.chopped)) _ (one_within (codes "chopped") (codes "chopped") (chopped_value t.chopped))
     (one_rising (codes "chopped") (codes "chopped") (chopped_value t.chopped)) files.behind files.rising
-
--- ---- none is removed
-
-given-append : (xs ys : List Update) → AreGiven xs → AreGiven ys → AreGiven (xs ++ ys)
-given-append [] ys one two = two
-given-append (x ∷ xs) ys one two = (one.0, given-append xs ys one.1 two)
-
-given-map : {X : Type 0} (column : X → Update) (each : (x : X) → IsGiven (Some (column x).value)) (xs : List X) → AreGiven (map column xs)
-given-map column each [] = tt
-given-map column each (x ∷ xs) = (each x, given-map column each xs)
-
-one_given : (family qualifier : List ℕ) (o : Option (List ℕ)) → AreGiven (at_most_one family qualifier o)
-one_given family qualifier None = tt
-one_given family qualifier (Some value) = (tt, tt)
-
-holder_given : (family : List ℕ) (o : Option Holder) → AreGiven (holder_columns family o)
-holder_given family None = tt
-holder_given family (Some holder) = (tt, tt)
-
-pub columns_given : (t : TabletRecord) → AreGiven (columns_of t)
-columns_given t =
-    given-append _ _ (one_given (codes "chopped") (codes "chopped") (chopped_value t.chopped))
-    (given-append _ _ (given-map file_column (λ file. tt) t.files)
-    (given-append _ _ (holder_given (codes "future") t.future)
-    (given-append _ _ (given-map loaded_column (λ entry. tt) t.loaded)
-    (given-append _ _ (holder_given (codes "loc") t.loc)
-    (given-append _ _ (given-map log_column (λ log. tt) t.logs) (
-      tt,
-      (
-        tt,
-        given-append _ _ (one_given (codes "~tab") (codes "merged") (option_map decimal t.merged))
-            (given-append _ _ (one_given (codes "~tab") (codes "oldprevrow") (option_map prev_value t.old_prev)) (tt, tt)),
-      ),
-    ))))))

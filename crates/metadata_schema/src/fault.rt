@@ -1,5 +1,5 @@
 // Why columns are no record's.
-ghost use Rattle.std.specs.Prelude.{◌≡◌, ◌++◌, ◌∷◌, [], OnOk};
+ghost use Rattle.std.specs.Prelude.{◌≡◌};
 ghost use Rattle.metadata_schema.specs.declared.fault.SchemaFault.TheVariants.{NoMemory};
 
 use std::alloc::AllocError;
@@ -28,11 +28,4 @@ impl From<AllocError> for SchemaFault {
     fn from(_: AllocError) -> Self {
         SchemaFault::NoMemory
     }
-}
-
-/// Adds an item at the end.
-pub(crate) fn push_item<T: Drop>(items: &mut Vec<T>, item: T) -> Result<(), AllocError>
-    ensures { OnOk result (items.new.items ≡ items.old.items ++ item ∷ []) }
-{
-    Ok(items.push(item)?)
 }

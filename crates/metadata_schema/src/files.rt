@@ -7,7 +7,8 @@ ghost use Rattle.metadata_schema.specs.Columns.{file_column};
 ghost use Rattle.metadata_schema.specs.Records.{IsFile};
 ghost use Rattle.metadata_schema.specs.Refusals.{Refuses, of_family};
 
-use crate::fault::{SchemaFault, push_item};
+use crate::fault::SchemaFault;
+use crate::lists::push_item;
 use crate::mutation::{Update, written};
 use crate::numbers::{read_number, read_time};
 use crate::parts::parted;

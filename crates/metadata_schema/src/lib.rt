@@ -9,6 +9,7 @@ mod files;
 mod holders;
 mod kind;
 mod laws;
+mod lists;
 mod loaded;
 mod logs;
 mod mutation;

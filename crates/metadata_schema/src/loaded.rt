@@ -6,7 +6,8 @@ ghost use Rattle.metadata_schema.specs.Columns.{loaded_column};
 ghost use Rattle.metadata_schema.specs.Records.{IsLoaded};
 ghost use Rattle.metadata_schema.specs.Refusals.{Refuses, of_family};
 
-use crate::fault::{SchemaFault, push_item};
+use crate::fault::SchemaFault;
+use crate::lists::push_item;
 use crate::mutation::{Update, written};
 use crate::numbers::{number_value, read_number};
 use crate::tablet::{LoadedEntries, LoadedEntry};

@@ -6,7 +6,8 @@ ghost use Rattle.metadata_schema.specs.Kinds.{IsColumn, IsValued};
 ghost use Rattle.metadata_schema.specs.Columns.{log_column};
 ghost use Rattle.metadata_schema.specs.Refusals.{Refuses, of_family};
 
-use crate::fault::{SchemaFault, push_item};
+use crate::fault::SchemaFault;
+use crate::lists::push_item;
 use crate::mutation::{Update, written};
 use crate::tablet::LogNames;
 use row_keys::{ListOf, LogName, Octets};

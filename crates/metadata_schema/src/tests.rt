@@ -3,9 +3,11 @@ ghost use Rattle.std.specs.Prelude.{◌≡◌, [], ◌∷◌, map, IsTrue, IfOk}
 ghost use Rattle.row_keys.specs.RowOrder.{bytes_cmp};
 ghost use Rattle.metadata_schema.specs.Bytes.{is_rising};
 ghost use Rattle.metadata_schema.specs.Records.{IsInOrder};
+ghost use Rattle.metadata_schema.specs.Refusals.{IsTabletRow};
 
 use super::*;
-use row_keys::{ListOf, Octets, Path, ServerName, SessionId, TableId};
+use crate::writing::columns_of;
+use row_keys::{ListOf, Octets, Path, Row, ServerName, SessionId, TableId, metadata_row};
 use std::alloc::Global;
 use std::test::Fail;
 
@@ -106,6 +108,32 @@ fn a_file_with_a_time_is_put(rt: HostRuntime) -> Result<(), Fail> {
     Ok(())
 }
 
+fn root_row(alloc: Global) -> Result<Row, Fail>
+    ensures { IfOk result IsTabletRow }
+{
+    let table = TableId::new(alloc, b"+r")?.ok_or("an id")?;
+    Ok(metadata_row(alloc, &table, None)?)
+}
+
+// What is left to write once the columns of this record are read back.
+fn read_back(alloc: Global, before: &TabletRecord) -> Result<Vec<Update>, Fail>
+    requires { IsInOrder before.now }
+{
+    let row = root_row(alloc)?;
+    let columns = columns_of(alloc, before)?;
+    let after = record_of(alloc, &row, &columns).ok().ok_or("a record")?;
+    Ok(updates_between(alloc, before, &after)?)
+}
+
+#[test]
+fn a_record_is_read_back(rt: HostRuntime) -> Result<(), Fail> {
+    let files = one(rt.alloc(), file(rt.alloc(), FIRST, Some(5))?)?;
+    let before = tablet(rt.alloc(), Some(holder(rt.alloc())?), files)?;
+    let updates = read_back(rt.alloc(), &before)?;
+    assert!(rt; updates.is_empty());
+    Ok(())
+}
+
 fn hosted(alloc: Global) -> Result<TabletState, Fail> {
     let live = [SessionId::new(alloc, SESSION)?.ok_or("a session")?];
     let tablet = tablet(alloc, Some(holder(alloc)?), ListOf::new(alloc))?;
@@ -122,8 +150,11 @@ fn a_tablet_is_hosted(rt: HostRuntime) -> Result<(), Fail> {
 #[test]
 fn laws_hold() {
     columns_are_in_order();
+    columns_of_records_are_read();
+    new_tablets_are_well_formed();
     numbers_have_one_spelling();
     paths_have_one_spelling();
     records_are_one_to_one();
+    rows_have_one_record();
     updates_lead_to_the_new_columns();
 }

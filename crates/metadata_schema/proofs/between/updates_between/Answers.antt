@@ -5,7 +5,8 @@ use Rattle.metadata_schema.specs.Between.{LeadsBetween}
 use Rattle.metadata_schema.specs.Columns.{columns_of}
 use Rattle.metadata_schema.specs.Merging.{between}
 use Rattle.metadata_schema.proofs.MergeLemmas.{leads_between}
-use Rattle.metadata_schema.proofs.RisingLemmas.{columns_rise, columns_given}
+use Rattle.metadata_schema.proofs.RisingLemmas.{columns_rise}
+use Rattle.metadata_schema.proofs.GivenLemmas.{columns_given}
 use Rattle.metadata_schema.proofs.between.updates_between.Goals as goal
 
 if_ok : {T E : Type 0} (P Q : T → Type 0) (r : Result T E) → ((x : T) → P x → Q x) → IfOk r P → IfOk r Q

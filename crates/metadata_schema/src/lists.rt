@@ -1,0 +1,11 @@
+// Lists that grow.
+ghost use Rattle.std.specs.Prelude.{◌≡◌, ◌++◌, ◌∷◌, [], OnOk};
+
+use std::alloc::AllocError;
+
+/// Adds an item at the end.
+pub(crate) fn push_item<T: Drop>(items: &mut Vec<T>, item: T) -> Result<(), AllocError>
+    ensures { OnOk result (items.new.items ≡ items.old.items ++ item ∷ []) }
+{
+    Ok(items.push(item)?)
+}
