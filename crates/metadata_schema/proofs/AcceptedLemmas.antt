@@ -1,27 +1,23 @@
 -- The columns of a well-formed record are those of the table, with values of their forms.
-use Rattle.std.proofs.Common.{◌≡◌, ℕ, ◌<◌, ◌≤◌, ◌^◌, Bool, true, false, ◌&&◌, cond, List, [], ◌∷◌, ◌++◌, length, map, drop, Option, Some, None, Result, Ok, Err, IsTrue, refl, sym, ap, ◌∙◌, subst, arith}
-use Rattle.std.specs.Prelude.{codes, IfSome, IsSome, OnOk, MatchResult}
-use Rattle.std.specs.List.{All, filter}
+use Rattle.std.proofs.Common.{◌≡◌, ℕ, ◌≤◌, Bool, true, false, ◌&&◌, cond, List, [], ◌∷◌, ◌++◌, length, map, Option, Some, None, Result, Ok, Err, refl, sym, ap, ◌∙◌, subst, arith}
+use Rattle.std.specs.Prelude.{codes, IsSome, OnOk, MatchResult}
+use Rattle.std.specs.List.{All}
 use Rattle.std.specs.Option.{option_map, option_flatten}
 use Rattle.std.specs.Fmt.{decimal}
-use Rattle.std.proofs.lemmas.Bool.{false≢true}
-use Rattle.std.proofs.lemmas.List.Elements.{All-nil, All-cons, All-append, All-map, All-weaker, All-from_recursion, filter-append}
-use Rattle.row_keys.specs.Forms.{IsLogName}
-use Rattle.row_keys.specs.MetadataRow.{prev_value, IsPrevValue}
+use Rattle.std.proofs.lemmas.List.Elements.{All-nil, All-cons}
+use Rattle.row_keys.specs.MetadataRow.{prev_value}
 use Rattle.metadata_schema.specs.declared.mutation.Update.{Update}
-use Rattle.metadata_schema.specs.declared.tablet.FileEntry.{FileEntry}
-use Rattle.metadata_schema.specs.declared.tablet.LoadedEntry.{LoadedEntry}
 use Rattle.metadata_schema.specs.declared.tablet.Holder.{Holder}
 use Rattle.metadata_schema.specs.declared.tablet.TabletRecord.{TabletRecord}
 use Rattle.metadata_schema.specs.declared.fault.SchemaFault.{SchemaFault}
 use Rattle.metadata_schema.specs.Bytes.{same}
-use Rattle.metadata_schema.specs.Values.{file_value, bar_value, chopped_value, IsNumberText, IsBarValue, IsFileValue}
+use Rattle.metadata_schema.specs.Values.{bar_value, chopped_value}
 use Rattle.metadata_schema.specs.Kinds.{IsColumn, IsValued}
-use Rattle.metadata_schema.specs.Columns.{written, at_most_one, is_named, update_at, column_at, file_column, loaded_column, log_column, holder_columns, fixed_columns, columns_of}
-use Rattle.metadata_schema.specs.Records.{IsFile, IsLoaded, IsHolder, IsInOrder, IsWellFormed, IsRecordOf}
+use Rattle.metadata_schema.specs.Columns.{written, at_most_one, update_at, column_at, file_column, loaded_column, log_column, holder_columns, fixed_columns, columns_of}
+use Rattle.metadata_schema.specs.Records.{IsInOrder, IsWellFormed, IsRecordOf}
 use Rattle.metadata_schema.specs.Refusals.{AreColumns, HasPrev, HasColumns, HasValues, of_family}
 use Rattle.metadata_schema.proofs.GivenLemmas.{IsGiven, AreGiven}
-use Rattle.metadata_schema.proofs.RisingLemmas.{InFamily, one_within, holder_within, mapped_within, from_logs, from_loc, from_loaded, from_future, from_files, columns_rise}
+use Rattle.metadata_schema.proofs.RisingLemmas.{InFamily, one_within, holder_within, mapped_within, from_logs, from_loc, from_loaded, from_future, columns_rise}
 use Rattle.metadata_schema.proofs.GivenLemmas.{columns_given}
 use Rattle.metadata_schema.proofs.FormLemmas.{all_columns, each_named, each_valued}
 

@@ -1,28 +1,20 @@
 -- What each column of a well-formed record is, and what it says.
-use Rattle.std.proofs.Common.{◌≡◌, ℕ, ◌<◌, ◌≤◌, ◌^◌, Bool, true, false, ◌&&◌, cond, List, [], ◌∷◌, ◌++◌, length, map, drop, Option, Some, None, Result, Ok, Err, IsTrue, refl, sym, ap, ◌∙◌, subst, arith}
-use Rattle.std.specs.Prelude.{codes, IfSome, IsSome, OnOk, MatchResult}
-use Rattle.std.specs.List.{All, filter}
-use Rattle.std.specs.Option.{option_map, option_flatten}
+use Rattle.std.proofs.Common.{◌≡◌, ℕ, ◌<◌, ◌≤◌, ◌^◌, Bool, true, false, List, [], ◌++◌, length, map, Option, Some, None, refl}
+use Rattle.std.specs.Prelude.{codes, IfSome}
+use Rattle.std.specs.List.{All}
+use Rattle.std.specs.Option.{option_map}
 use Rattle.std.specs.Fmt.{decimal}
-use Rattle.std.proofs.lemmas.Bool.{false≢true}
-use Rattle.std.proofs.lemmas.List.Elements.{All-nil, All-cons, All-append, All-map, All-weaker, All-from_recursion, filter-append}
+use Rattle.std.proofs.lemmas.List.Elements.{All-nil, All-cons, All-append, All-map, All-weaker}
 use Rattle.row_keys.specs.Forms.{IsLogName}
 use Rattle.row_keys.specs.MetadataRow.{prev_value, IsPrevValue}
 use Rattle.metadata_schema.specs.declared.mutation.Update.{Update}
-use Rattle.metadata_schema.specs.declared.tablet.FileEntry.{FileEntry}
-use Rattle.metadata_schema.specs.declared.tablet.LoadedEntry.{LoadedEntry}
 use Rattle.metadata_schema.specs.declared.tablet.Holder.{Holder}
 use Rattle.metadata_schema.specs.declared.tablet.TabletRecord.{TabletRecord}
-use Rattle.metadata_schema.specs.declared.fault.SchemaFault.{SchemaFault}
-use Rattle.metadata_schema.specs.Bytes.{same}
-use Rattle.metadata_schema.specs.Values.{file_value, bar_value, chopped_value, IsNumberText, IsBarValue, IsFileValue}
+use Rattle.metadata_schema.specs.Values.{file_value, bar_value, chopped_value, IsNumberText, IsFileValue}
 use Rattle.metadata_schema.specs.Kinds.{IsColumn, IsValued}
-use Rattle.metadata_schema.specs.Columns.{written, at_most_one, is_named, update_at, column_at, file_column, loaded_column, log_column, holder_columns, fixed_columns, columns_of}
-use Rattle.metadata_schema.specs.Records.{IsFile, IsLoaded, IsHolder, IsWellFormed, IsRecordOf}
-use Rattle.metadata_schema.specs.Refusals.{AreColumns, HasPrev, HasColumns, HasValues, of_family}
-use Rattle.metadata_schema.proofs.GivenLemmas.{IsGiven, AreGiven}
-use Rattle.metadata_schema.proofs.RisingLemmas.{InFamily, one_within, holder_within, mapped_within, from_logs, from_loc, from_loaded, from_future, from_files, columns_rise}
-use Rattle.metadata_schema.proofs.GivenLemmas.{columns_given}
+use Rattle.metadata_schema.specs.Columns.{written, at_most_one, file_column, loaded_column, log_column, holder_columns, fixed_columns, columns_of}
+use Rattle.metadata_schema.specs.Records.{IsFile, IsLoaded, IsHolder, IsWellFormed}
+use Rattle.metadata_schema.proofs.RisingLemmas.{from_logs, from_loc, from_loaded, from_future, from_files}
 
 each_one : (P : Update → Type 0) (f q : List ℕ) (o : Option (List ℕ)) → IfSome o (λ value. P (written f q value)) → All P (at_most_one f q o)
 each_one P f q None is = All-nil P

@@ -1,29 +1,14 @@
 -- Columns of which none is removed, as are a record's.
-use Rattle.std.proofs.lemmas.List.{drop_all, take_all, append-nil}
-use Rattle.std.proofs.Common.{arith, take, drop, length, length-drop, append_assoc, ◌-◌, ◌≤◌, ◌≡◌, ◌⊎◌, inl, inr, ℕ, Bool, true, false, cond, List, [], ◌∷◌, ◌++◌, map, Option, Some, None, Ordering, Less, Equal, Greater, IsTrue, refl, sym, ap, ◌∙◌, subst}
-use Rattle.std.specs.Prelude.{MatchBool, codes}
-use Rattle.std.specs.Ordering.{is_lt, ordering_then}
-use Rattle.std.specs.List.{list_all}
-use Rattle.std.specs.Option.{option_flatten, option_map}
-use Rattle.std.specs.Cmp.Lexicographic.{told_text}
-use Rattle.std.proofs.lemmas.Bool.{and_parts, and_from}
-use Rattle.std.proofs.lemmas.Option.{same_Some}
+use Rattle.std.proofs.Common.{ℕ, Bool, true, false, cond, List, [], ◌∷◌, ◌++◌, map, Option, Some, None}
+use Rattle.std.specs.Prelude.{codes}
+use Rattle.std.specs.Option.{option_map}
 use Rattle.metadata_schema.specs.declared.mutation.Update.{Update}
-use Rattle.metadata_schema.specs.Bytes.{same, is_rising}
-use Rattle.metadata_schema.specs.Columns.{update_cmp, is_named, update_at, written, at_most_one, file_column, loaded_column, log_column, holder_columns, fixed_columns, columns_of}
-use Rattle.metadata_schema.specs.Between.{LeadsBetween}
-use Rattle.metadata_schema.specs.Merging.{removal_of, same_value, first_between, between_first, between}
-use Rattle.metadata_schema.proofs.OrderLemmas.{Above, above_more, above_same, same_column, greater_back, named_same, absent, less_is}
+use Rattle.metadata_schema.specs.Columns.{is_named, update_at, at_most_one, file_column, loaded_column, log_column, holder_columns, columns_of}
 use Rattle.std.specs.Fmt.{decimal}
-use Rattle.std.proofs.lemmas.Cmp.{nat_list_cmp_total}
-use Rattle.row_keys.specs.RowOrder.{bytes_cmp}
 use Rattle.row_keys.specs.MetadataRow.{prev_value}
-use Rattle.metadata_schema.specs.declared.tablet.FileEntry.{FileEntry}
-use Rattle.metadata_schema.specs.declared.tablet.LoadedEntry.{LoadedEntry}
 use Rattle.metadata_schema.specs.declared.tablet.Holder.{Holder}
 use Rattle.metadata_schema.specs.declared.tablet.TabletRecord.{TabletRecord}
-use Rattle.metadata_schema.specs.Values.{bar_value, chopped_value}
-use Rattle.metadata_schema.specs.Records.{IsInOrder}
+use Rattle.metadata_schema.specs.Values.{chopped_value}
 
 abbrev pub IsGiven : Option (Option (List ℕ)) → Type 0
 IsGiven None = Unit {0}

@@ -1,5 +1,5 @@
 -- What numbers in values say.
-use Rattle.std.proofs.Common.{◌≡◌, ℕ, ◌<◌, ◌≤◌, ◌^◌, List, ◌∷◌, ◌++◌, Option, Some, None, Result, Ok, Err, IsTrue, sym, ◌∙◌, ap, subst, arith}
+use Rattle.std.proofs.Common.{◌≡◌, ℕ, ◌<◌, ◌≤◌, ◌^◌, List, ◌++◌, Option, Some, None, Result, Ok, Err, IsTrue, sym, ◌∙◌, ap, subst, arith}
 use Rattle.std.specs.Prelude.{MatchResult, IfSome}
 use Rattle.std.specs.Borrow.{Bor}
 use Rattle.std.specs.Result.{result_ok}
@@ -11,7 +11,7 @@ use Rattle.std.proofs.lemmas.List.{append-nil}
 use Rattle.std.proofs.lemmas.Fmt.{IsAscii-decimal, parse-decimal, decimal_injective}
 use Rattle.std.proofs.lemmas.Str.{IsUtf8-from_ascii}
 use Rattle.metadata_schema.specs.Bytes.{is_free, IsParted}
-use Rattle.metadata_schema.specs.Values.{time_part, file_value, IsNumberText, IsTimeText, IsFileValue, AreEntries, IsEntriesText}
+use Rattle.metadata_schema.specs.Values.{time_part, IsNumberText, IsTimeText, IsFileValue, IsEntriesText}
 use Rattle.metadata_schema.proofs.LawsLemmas.{parted_once}
 use Rattle.metadata_schema.proofs.SameColumns.{decimal_free}
 use Rattle.metadata_schema.proofs.PathLemmas.{not_free}

@@ -1,6 +1,6 @@
 -- Columns in order, all of the table, are their parts by name, joined.
 use Rattle.std.proofs.Common.{◌≡◌, ℕ, Bool, true, false, ◌&&◌, ◌||◌, cond, List, [], ◌∷◌, ◌++◌, Option, Some, None, Ordering, Less, Equal, Greater, IsTrue, refl, sym, ap, ◌∙◌}
-use Rattle.std.specs.Prelude.{codes, MatchOption, IsSome}
+use Rattle.std.specs.Prelude.{codes, IsSome}
 use Rattle.std.specs.Ordering.{is_lt, ordering_then, ordering_reverse}
 use Rattle.std.specs.List.{list_all, list_any, All, filter}
 use Rattle.std.specs.Option.{option_flatten}
@@ -9,11 +9,9 @@ use Rattle.std.proofs.lemmas.Bool.{false≢true, and_parts}
 use Rattle.std.proofs.lemmas.List.Elements.{All-head, All-tail}
 use Rattle.row_keys.specs.RowOrder.{bytes_cmp}
 use Rattle.metadata_schema.specs.declared.mutation.Update.{Update}
-use Rattle.metadata_schema.specs.declared.kind.Kind.{Kind}
 use Rattle.metadata_schema.specs.Bytes.{same, is_rising}
-use Rattle.metadata_schema.specs.Kinds.{kind_of, IsColumn}
 use Rattle.metadata_schema.specs.Columns.{update_cmp, is_named, update_at, column_at, at_most_one}
-use Rattle.metadata_schema.proofs.OrderLemmas.{Above, update_total, less_is, ties, named_is, not_named}
+use Rattle.metadata_schema.proofs.OrderLemmas.{Above, update_total, less_is, named_is, not_named}
 
 -- a family, and a qualifier where the family has a few only
 abbrev pub Name : Type 0

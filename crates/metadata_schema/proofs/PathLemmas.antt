@@ -1,16 +1,15 @@
 -- What the parts of bytes by a mark say of paths and directories.
-use Rattle.std.proofs.Common.{◌≡◌, ◌⊎◌, inl, inr, ℕ, zero, suc, ◌+◌, ◌<◌, ◌≤◌, Bool, true, false, not, ◌==◌, ◌||◌, ltb, cond, List, [], ◌∷◌, ◌++◌, length, take, drop, get_or, Option, Some, None, IsTrue, position, refl, sym, ap, ◌∙◌, subst, arith, take-append-drop, drop-cons, length-append, length-drop, add-one, ◌-◌}
+use Rattle.std.proofs.Common.{◌≡◌, inl, inr, ℕ, zero, suc, ◌+◌, ◌<◌, ◌≤◌, Bool, true, false, not, ◌==◌, ltb, cond, List, [], ◌∷◌, ◌++◌, length, take, drop, get_or, Some, None, IsTrue, position, refl, sym, ap, ◌∙◌, subst, arith, take-append-drop, drop-cons, length-append, length-drop, add-one, ◌-◌}
 use Rattle.std.specs.Prelude.{MatchBool, codes}
-use Rattle.std.specs.List.{list_all, position_or_len}
-use Rattle.std.specs.Cmp.Lexicographic.{told_text}
+use Rattle.std.specs.List.{position_or_len}
 use Rattle.std.proofs.lemmas.Bool.{and_parts, and_from}
 use Rattle.std.proofs.lemmas.Bool.Decides.{nat_tests}
 use Rattle.std.proofs.lemmas.List.{take_all, append_cancel_right}
 use Rattle.std.proofs.lemmas.List.Quantifiers.{position-Some}
 use Rattle.std.proofs.lemmas.List.Sums.{fails_before_first}
 use Rattle.row_keys.specs.Forms.{IsTableId, IsPath}
-use Rattle.metadata_schema.specs.Bytes.{same, is_free, IsParted}
-use Rattle.metadata_schema.specs.Paths.{is_fixed, is_file_kind, IsDrawnText, IsDirectory, IsFileName, AreParts, IsFilePath, file_path}
+use Rattle.metadata_schema.specs.Bytes.{is_free, IsParted}
+use Rattle.metadata_schema.specs.Paths.{is_file_kind, IsDrawnText, IsDirectory, IsFileName, AreParts, IsFilePath, file_path}
 use Rattle.metadata_schema.proofs.LawsLemmas.{parted_once, id_free, directory_free}
 
 -- ---- the first mark

@@ -11,7 +11,7 @@ use Rattle.metadata_schema.specs.declared.fault.SchemaFault.{SchemaFault}
 use Rattle.metadata_schema.specs.declared.fault.SchemaFault.TheVariants.{NoPrev, BadColumn, BadValue, NoMemory}
 use Rattle.metadata_schema.specs.declared.kind.Kind.{Kind}
 use Rattle.metadata_schema.specs.Bytes.{same}
-use Rattle.metadata_schema.specs.Kinds.{kind_of, IsQualifier, IsValue, IsColumn, IsValued}
+use Rattle.metadata_schema.specs.Kinds.{kind_of, IsValue, IsColumn, IsValued}
 use Rattle.metadata_schema.specs.Columns.{is_named, update_at, column_at}
 use Rattle.metadata_schema.specs.Refusals.{Refuses, of_family}
 

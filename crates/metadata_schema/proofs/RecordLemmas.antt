@@ -1,6 +1,6 @@
 -- What is read of columns is the record whose columns they are.
-use Rattle.std.proofs.Common.{◌≡◌, ℕ, ◌<◌, ◌≤◌, ◌^◌, Bool, true, false, ◌&&◌, ◌||◌, cond, List, [], ◌∷◌, ◌++◌, length, map, Option, Some, None, Ordering, IsTrue, refl, sym, ap, ◌∙◌, subst}
-use Rattle.std.specs.Prelude.{codes, MatchOption, IfSome, IsSome}
+use Rattle.std.proofs.Common.{◌≡◌, ℕ, Bool, true, false, ◌&&◌, ◌||◌, cond, List, [], ◌∷◌, ◌++◌, map, Option, Some, None, IsTrue, refl, sym, ap, ◌∙◌, subst}
+use Rattle.std.specs.Prelude.{codes, MatchOption, IfSome}
 use Rattle.std.specs.Ordering.{is_lt}
 use Rattle.std.specs.List.{list_all, All, filter}
 use Rattle.std.specs.Option.{option_map, option_flatten}
@@ -17,8 +17,8 @@ use Rattle.metadata_schema.specs.declared.tablet.LoadedEntry.{LoadedEntry}
 use Rattle.metadata_schema.specs.declared.tablet.TabletRecord.{TabletRecord}
 use Rattle.metadata_schema.specs.Bytes.{same, is_rising}
 use Rattle.metadata_schema.specs.Values.{bar_value, chopped_value}
-use Rattle.metadata_schema.specs.Kinds.{kind_of, IsQualifier, IsColumn, IsValued}
-use Rattle.metadata_schema.specs.Columns.{update_cmp, is_named, update_at, column_at, at_most_one, file_column, loaded_column, log_column, holder_columns, fixed_columns, columns_of}
+use Rattle.metadata_schema.specs.Kinds.{IsQualifier, IsColumn, IsValued}
+use Rattle.metadata_schema.specs.Columns.{update_cmp, is_named, update_at, column_at, at_most_one, file_column, loaded_column, log_column, holder_columns, columns_of}
 use Rattle.metadata_schema.specs.Records.{IsInOrder}
 use Rattle.metadata_schema.specs.Refusals.{AreColumns, of_family}
 use Rattle.metadata_schema.proofs.OrderLemmas.{named_is}

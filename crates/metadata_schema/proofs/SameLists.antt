@@ -1,35 +1,18 @@
 -- Look-ups tell lists of columns in order.
-use Rattle.std.proofs.Common.{◌≡◌, ℕ, ◌<◌, ◌^◌, ◌+◌, ◌%◌, Bool, true, false, not, ◌==◌, cond, List, [], ◌∷◌, ◌++◌, map, drop, Option, Some, None, Ordering, Less, Equal, Greater, IsTrue, refl, sym, ap, ◌∙◌, subst, arith}
-use Rattle.std.specs.Prelude.{codes, IfSome, MatchBool}
+use Rattle.std.proofs.Common.{◌≡◌, ℕ, Bool, true, false, cond, List, [], ◌∷◌, Option, Some, None, Ordering, Less, Equal, Greater, IsTrue, refl, sym, ap, ◌∙◌}
+use Rattle.std.specs.Prelude.{MatchBool}
 use Rattle.std.specs.Cmp.Lexicographic.{told_text}
 use Rattle.std.specs.Ordering.{is_lt}
-use Rattle.std.specs.List.{list_all, All}
-use Rattle.std.specs.Option.{option_map, option_flatten}
-use Rattle.std.specs.Fmt.{decimal}
-use Rattle.std.proofs.lemmas.List.Elements.{All-head, All-tail}
-use Rattle.std.proofs.lemmas.Bool.{false≢true, and_parts, and_from}
-use Rattle.std.proofs.lemmas.Bool.Decides.{nat_tests}
+use Rattle.std.specs.List.{list_all}
+use Rattle.std.specs.Option.{option_flatten}
+use Rattle.std.proofs.lemmas.Bool.{and_parts, and_from}
 use Rattle.std.proofs.lemmas.Option.{same_Some}
-use Rattle.std.proofs.lemmas.Cmp.{nat_list_cmp_total, tied_itself}
-use Rattle.std.proofs.lemmas.Fmt.{decimal_injective, decimal_by_steps}
-use Rattle.row_keys.specs.RowOrder.{bytes_cmp}
-use Rattle.row_keys.specs.MetadataRow.{prev_value}
 use Rattle.metadata_schema.specs.declared.mutation.Update.{Update}
-use Rattle.metadata_schema.specs.declared.tablet.FileEntry.{FileEntry}
-use Rattle.metadata_schema.specs.declared.tablet.LoadedEntry.{LoadedEntry}
-use Rattle.metadata_schema.specs.declared.tablet.Holder.{Holder}
-use Rattle.metadata_schema.specs.declared.tablet.TabletRecord.{TabletRecord}
-use Rattle.metadata_schema.specs.Bytes.{same, is_free, is_rising}
-use Rattle.metadata_schema.specs.Values.{file_value, time_part, bar_value, chopped_value}
-use Rattle.metadata_schema.specs.Columns.{at_most_one, file_column, loaded_column, log_column, holder_columns, fixed_columns, columns_of, update_at, update_cmp}
-use Rattle.metadata_schema.specs.Records.{IsWellFormed, IsFile, IsLoaded}
-use Rattle.metadata_schema.proofs.RisingLemmas.{Behind, InFamily, one_within, holder_within, mapped_within, from_logs, from_loc, from_loaded, from_future, from_files, fixed_tail, logs_tail, loc_tail, loaded_tail, future_tail, files_tail}
-use Rattle.metadata_schema.specs.Columns.{is_named, column_at}
+use Rattle.metadata_schema.specs.Bytes.{same, is_rising}
+use Rattle.metadata_schema.specs.Columns.{update_at, update_cmp}
+use Rattle.metadata_schema.specs.Columns.{is_named}
 use Rattle.metadata_schema.proofs.OrderLemmas.{Above, same_column, greater_back, named_same, absent, above_more}
-use Rattle.metadata_schema.proofs.GivenLemmas.{IsGiven, given_at}
-use Rattle.metadata_schema.proofs.RisingLemmas.{columns_rise}
-use Rattle.metadata_schema.proofs.GivenLemmas.{columns_given}
-use Rattle.metadata_schema.proofs.LawsLemmas.{parted_once}
+use Rattle.metadata_schema.proofs.GivenLemmas.{IsGiven}
 
 named_itself : (u : Update) → is_named u.family u.qualifier u ≡ true
 named_itself u = and_from (same u.family u.family) (same u.qualifier u.qualifier) (alike u.family) (alike u.qualifier)

@@ -1,5 +1,5 @@
 -- When columns are no record's. Of several refusals the first in this order is answered.
-use Rattle.std.specs.Prelude.{◌≡◌, ◌⊎◌, ℕ, ◌≤◌, List, Option, length, IsTrue, IsSome, codes}
+use Rattle.std.specs.Prelude.{ℕ, ◌≤◌, List, Option, length, IsTrue, IsSome, codes}
 use Rattle.std.specs.List.{All, filter}
 use Rattle.row_keys.specs.MetadataRow.{IsMetadataRow}
 use Rattle.metadata_schema.specs.declared.mutation.Update.{Update}

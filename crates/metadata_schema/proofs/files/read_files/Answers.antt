@@ -1,12 +1,10 @@
-use Rattle.std.proofs.Common.{◌≡◌, ◌∙◌, Bool, List, ℕ, sym, ap, subst, map, take, ◌+◌}
+use Rattle.std.proofs.Common.{◌≡◌, ◌∙◌, List, ℕ, sym, ap, subst, map}
 use Rattle.std.specs.Prelude.{codes}
 use Rattle.std.specs.List.{All}
 use Rattle.std.proofs.lemmas.List.Elements.{All-push}
 use Rattle.metadata_schema.specs.Records.{IsFile}
-use Rattle.metadata_schema.specs.declared.tablet.FileEntry.{FileEntry}
 use Rattle.metadata_schema.specs.Bytes.{same}
 use Rattle.metadata_schema.specs.Columns.{file_column}
-use Rattle.metadata_schema.specs.Refusals.{of_family}
 use Rattle.metadata_schema.proofs.ReadingLemmas.{read_more, left_out}
 use Rattle.metadata_schema.proofs.files.read_files.Goals as goal
 use Rattle.metadata_schema.proofs.files.read_files.Goals.{then-eq+in_ok-file+in_ok-push_item, else-eq}

@@ -1,4 +1,4 @@
-use Rattle.std.proofs.Common.{◌≡◌, ◌∙◌, Bool, true, List, ℕ, sym, ap}
+use Rattle.std.proofs.Common.{◌≡◌, ◌∙◌, true, List, ℕ, sym, ap}
 use Rattle.metadata_schema.specs.Bytes.{same}
 use Rattle.metadata_schema.proofs.ReadingLemmas.{only_there}
 use Rattle.metadata_schema.proofs.holders.only_of.Goals as goal

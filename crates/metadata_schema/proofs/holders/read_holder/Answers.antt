@@ -1,4 +1,4 @@
-use Rattle.std.proofs.Common.{◌≡◌, ◌∙◌, sym, ap, rules, List, ℕ, length, subst, ◌∷◌, []}
+use Rattle.std.proofs.Common.{◌∙◌, sym, ap, rules, List, ℕ, subst, ◌∷◌, []}
 use Rattle.std.specs.Prelude.{MatchResult}
 use Rattle.std.specs.List.{All}
 use Rattle.metadata_schema.specs.declared.mutation.Update.{Update}

@@ -1,4 +1,4 @@
-use Rattle.std.proofs.Common.{◌≤◌, ◌<◌, ◌^◌, List, ℕ, Option, Some, None, inl, inr, length, refl, lit<}
+use Rattle.std.proofs.Common.{◌≤◌, List, ℕ, Option, Some, None, inl, inr, length, refl, lit<}
 use Rattle.std.specs.Prelude.{codes, IfSome}
 use Rattle.std.proofs.lemmas.List.Elements.{All-nil}
 use Rattle.row_keys.specs.Forms.{IsLogName}

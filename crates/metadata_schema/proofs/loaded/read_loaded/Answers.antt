@@ -1,12 +1,10 @@
-use Rattle.std.proofs.Common.{◌≡◌, ◌∙◌, Bool, List, ℕ, sym, ap, subst, map, take, ◌+◌}
+use Rattle.std.proofs.Common.{◌≡◌, ◌∙◌, List, ℕ, sym, ap, subst, map}
 use Rattle.std.specs.Prelude.{codes}
 use Rattle.std.specs.List.{All}
 use Rattle.std.proofs.lemmas.List.Elements.{All-push}
 use Rattle.metadata_schema.specs.Records.{IsLoaded}
-use Rattle.metadata_schema.specs.declared.tablet.LoadedEntry.{LoadedEntry}
 use Rattle.metadata_schema.specs.Bytes.{same}
 use Rattle.metadata_schema.specs.Columns.{loaded_column}
-use Rattle.metadata_schema.specs.Refusals.{of_family}
 use Rattle.metadata_schema.proofs.ReadingLemmas.{read_more, left_out}
 use Rattle.metadata_schema.proofs.loaded.read_loaded.Goals as goal
 use Rattle.metadata_schema.proofs.loaded.read_loaded.Goals.{then-eq+in_ok-entry+in_ok-push_item, else-eq}

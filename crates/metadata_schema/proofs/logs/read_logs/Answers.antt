@@ -1,11 +1,10 @@
-use Rattle.std.proofs.Common.{◌≡◌, ◌∙◌, Bool, List, ℕ, sym, ap, subst, map, take, ◌+◌}
+use Rattle.std.proofs.Common.{◌≡◌, ◌∙◌, List, ℕ, sym, ap, subst, map}
 use Rattle.std.specs.Prelude.{codes}
 use Rattle.std.specs.List.{All}
 use Rattle.std.proofs.lemmas.List.Elements.{All-push}
 use Rattle.row_keys.specs.Forms.{IsLogName}
 use Rattle.metadata_schema.specs.Bytes.{same}
 use Rattle.metadata_schema.specs.Columns.{log_column}
-use Rattle.metadata_schema.specs.Refusals.{of_family}
 use Rattle.metadata_schema.proofs.ReadingLemmas.{read_more, left_out}
 use Rattle.metadata_schema.proofs.logs.read_logs.Goals as goal
 use Rattle.metadata_schema.proofs.logs.read_logs.Goals.{then-eq+in_ok-log+in_ok-push_item, else-eq}

@@ -1,4 +1,4 @@
-use Rattle.std.proofs.Common.{List, ℕ, take, drop, ◌+◌, subst, sym}
+use Rattle.std.proofs.Common.{List, ℕ, take, ◌+◌, subst, sym}
 use Rattle.metadata_schema.specs.Bytes.{IsParted}
 use Rattle.metadata_schema.proofs.PathLemmas.{parts_of, to_end, all_free}
 use Rattle.metadata_schema.proofs.parts.parted.Goals as goal

@@ -1,5 +1,4 @@
-use Rattle.std.proofs.Common.{◌≡◌, List, ℕ, take, sym, subst}
-use Rattle.std.specs.List.{All}
+use Rattle.std.proofs.Common.{List, ℕ, take, sym, subst}
 use Rattle.std.proofs.lemmas.List.{take_all}
 use Rattle.std.proofs.lemmas.List.Elements.{All-more, All-same}
 use Rattle.metadata_schema.specs.declared.mutation.Update.{Update}

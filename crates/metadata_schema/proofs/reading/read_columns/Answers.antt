@@ -1,4 +1,4 @@
-use Rattle.std.proofs.Common.{◌≡◌, ◌∙◌, ◌≤◌, sym, ap, rules, List, ℕ, length, Option, Some}
+use Rattle.std.proofs.Common.{◌≡◌, ◌∙◌, sym, ap, rules, List, ℕ, Option, Some}
 use Rattle.std.specs.Prelude.{codes, MatchResult, IfSome}
 use Rattle.std.specs.Option.{option_copied}
 use Rattle.row_keys.specs.MetadataRow.{IsPrevValue}
