@@ -107,10 +107,11 @@ fn read_columns(alloc: Global, row: &Row, updates: &[Update]) -> Result<TabletRe
     })
 }
 
-/// The record of a metadata row, from the columns of the row. `NoPrev` comes exactly where `~tab:~pr` isn't there; else `BadColumn`
-/// exactly where a column is none of a tablet's, or a second `loc` or `future` is there; else `BadValue` exactly where a value isn't
-/// of its form, or `srv:dir` or `srv:time` isn't there. Beside them comes `NoMemory` alone. Takes memory for the record, and time
-/// with the bytes of the columns.
+/// The record of a tablet, from its metadata row and the columns of that row, which are in order and none of them removed; so the
+/// columns are those of this record, and of no other record of the row. `NoPrev` comes exactly where `~tab:~pr` isn't there; else
+/// `BadColumn` exactly where a column is none of a tablet's, or a second `loc` or `future` is there; both take no memory. Else
+/// `BadValue` comes where a value isn't of its form, or `srv:dir` or `srv:time` isn't there, and in its place only `NoMemory` may.
+/// Takes memory for the record, and time with the bytes of the columns, which are gone through once for each kind.
 pub fn record_of(alloc: Global, row: &Row, updates: &[Update]) -> Result<TabletRecord, SchemaFault>
     requires row { IsTabletRow row.now }
     requires columns { AreColumns updates.now }
