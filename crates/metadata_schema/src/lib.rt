@@ -4,6 +4,7 @@
 #![tactic(auto)]
 
 mod between;
+mod copies;
 mod fault;
 mod files;
 mod holders;
