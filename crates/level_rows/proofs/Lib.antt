@@ -1,0 +1,14 @@
+pub mod Membership
+pub mod EndLemmas
+pub mod WayLemmas
+pub mod PartitionLemmas
+pub mod RewireLemmas
+pub mod SplitLemmas
+pub mod WalkLemmas
+pub mod LookupLemmas
+pub mod IndexLemmas
+pub mod LeftLemmas
+pub mod ChoiceLemmas
+pub mod RangeLemmas
+pub mod BesideLemmas
+pub mod OneListLemmas
