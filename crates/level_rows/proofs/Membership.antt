@@ -1,6 +1,8 @@
 -- What is among the elements of a list.
-use Rattle.std.proofs.Common.{◌≡◌, ◌⊎◌, inl, inr, ℕ, zero, suc, ◌<◌, Bool, true, false, cond, List, [], ◌∷◌, length, get_or, Contains, refl, sym, ◌∙◌, ap, subst, arith}
+use Rattle.std.proofs.Common.{◌≡◌, ◌⊎◌, inl, inr, ℕ, zero, suc, ◌<◌, Bool, true, false, cond, List, [], ◌∷◌, length, get_or, reverse, Contains, refl, sym, ◌∙◌, ap, subst, arith}
 use Rattle.std.specs.List.{filter}
+use Rattle.std.proofs.lemmas.List.{reverse-append, reverse-reverse}
+use Rattle.std.proofs.lemmas.List.Elements.{Contains-append_cases}
 
 pub Contains-nil : {X : Type 0} (x : X) → Contains [] x → ⊥
 Contains-nil x c = let lt = c.1 in omega arith
@@ -42,3 +44,16 @@ Contains-in_filter p (y ∷ ys) x c pass = by (p y) refl (λ rest. Contains-in_f
       | inl is ↦ absurd (let wrong = sym e ∙ ap p is ∙ pass in cc)
       | inr rest ↦ h rest
     ]
+
+pub Contains-reverse : {X : Type 0} (xs : List X) (x : X) → Contains (reverse xs) x → Contains xs x
+Contains-reverse [] x c = c
+Contains-reverse (y ∷ ys) x c = elim (Contains-append_cases (reverse ys) (y ∷ []) x (subst (λ l. Contains l x) (reverse-append (y ∷ []) ys) c)) [
+  | inl rest ↦ Contains-there y x ys (Contains-reverse ys x rest)
+  | inr one ↦ elim (Contains-cons_cases y x [] one) [
+    | inl is ↦ subst (Contains (y ∷ ys)) is (Contains-here y ys)
+    | inr none ↦ absurd (Contains-nil x none)
+  ]
+]
+
+pub Contains-in_reverse : {X : Type 0} (xs : List X) (x : X) → Contains xs x → Contains (reverse xs) x
+Contains-in_reverse xs x c = Contains-reverse (reverse xs) x (subst (λ l. Contains l x) (sym (reverse-reverse xs)) c)

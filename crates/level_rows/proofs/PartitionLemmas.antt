@@ -1,11 +1,11 @@
 -- Each row lies in one extent of a chain.
-use Rattle.std.proofs.Common.{◌≡◌, ℕ, inl, inr, List, [], ◌∷◌, Bool, true, false, not, Option, Some, None, Contains, refl, sym, ◌∙◌, ap, subst}
+use Rattle.std.proofs.Common.{◌≡◌, ℕ, inl, inr, List, [], ◌∷◌, Bool, true, false, not, Option, Some, None, reverse, Contains, refl, sym, ◌∙◌, ap, subst}
 use Rattle.std.proofs.lemmas.Bool.{cases_Bool, and_parts, and_from, false≢true}
 use Rattle.row_keys.specs.RowOrder.{is_below, is_above, is_up_to, is_within}
 use Rattle.metadata_schema.specs.declared.tablet.TabletRecord.{TabletRecord}
-use Rattle.level_rows.specs.Chain.{Rows, effective_prev, IsBelowEnd, GoesOn, IsChainFrom, IsChain}
+use Rattle.level_rows.specs.Chain.{Rows, effective_prev, IsBelowEnd, GoesOn, IsChainFrom, IsChain, IsChainOf, rows_of}
 use Rattle.level_rows.specs.Extents.{holds_row, HasOneFor}
-use Rattle.level_rows.proofs.Membership.{Contains-nil, Contains-here, Contains-there, Contains-cons_cases}
+use Rattle.level_rows.proofs.Membership.{Contains-nil, Contains-here, Contains-there, Contains-cons_cases, Contains-reverse, Contains-in_reverse}
 use Rattle.level_rows.proofs.WayLemmas.{Bytes, up_to_end, none_in}
 
 -- the rows that a record of the way holds are not above the way
@@ -65,3 +65,14 @@ partition_from rows end (t ∷ ts) row p upto = by (effective_prev rows t) refl 
 
 pub partition_at : (rows : Rows) (ts : List TabletRecord) (row : Bytes) → IsChain rows ts → HasOneFor rows ts row
 partition_at rows ts row p = partition_from rows None ts row p refl
+
+-- and so in rising order
+pub partition_of : (table : Bytes) (records ts : List TabletRecord) (row : Bytes) → IsChainOf table records ts → HasOneFor (rows_of table records) ts row
+partition_of table records ts row p =
+    let one = partition_at (rows_of table records) (reverse ts) row p in
+    record {
+      holder = one.holder;
+      there = Contains-reverse ts one.holder one.there;
+      holds = one.holds;
+      only = λ u there holds. one.only u (Contains-in_reverse ts u there) holds;
+    }

@@ -2,14 +2,15 @@
 use Rattle.std.proofs.Common.{◌≡◌, ℕ, inl, inr, List, [], ◌∷◌, ◌++◌, Bool, true, false, not, Option, Some, None, Contains, refl, sym, ◌∙◌, ap, subst}
 use Rattle.std.proofs.lemmas.Bool.{cases_Bool, and_parts, and_from, false≢true}
 use Rattle.std.proofs.lemmas.Option.{same_Some}
+use Rattle.std.proofs.lemmas.List.Elements.{Contains-append_cases}
 use Rattle.row_keys.specs.RowOrder.{is_below, is_above, is_up_to, is_within, is_interval, higher_low, lower_high, have_common}
 use Rattle.row_keys.proofs.RowOrderLemmas.{is_below-itself, is_below-trans, is_below-to_most}
 use Rattle.row_keys.proofs.RangesLemmas.{common_of, common_is_shared}
 use Rattle.metadata_schema.specs.declared.tablet.TabletRecord.{TabletRecord}
 use Rattle.level_rows.specs.Chain.{Rows, effective_prev, IsBelowEnd, GoesOn, IsChainFrom, IsChain}
-use Rattle.level_rows.specs.Extents.{holds_row, meets_range, ReachesUpTo, ReachesDownTo, begins_by, IsPieceFor}
+use Rattle.level_rows.specs.Extents.{holds_row, meets_range, ReachesUpTo, ReachesDownTo, begins_by, EndsBetween, IsPieceFor}
 use Rattle.level_rows.proofs.Membership.{Contains-nil, Contains-here, Contains-there, Contains-cons_cases}
-use Rattle.level_rows.proofs.WayLemmas.{Bytes}
+use Rattle.level_rows.proofs.WayLemmas.{Bytes, below_end, none_in}
 use Rattle.level_rows.proofs.PartitionLemmas.{inside_up_to}
 
 not_false : (b : Bool) → not b ≡ true → b ≡ false
@@ -24,10 +25,9 @@ below-not_back a b p = by (is_below b a) refl
     by true e = absurd (false≢true (sym (is_below-itself a) ∙ is_below-trans a b a p e))
     by false e = refl
 
--- a row below one that is up to a bound is up to it, too
-below-up_to : (to : Option Bytes) (a b : Bytes) → is_below a b ≡ true → is_up_to to b ≡ true → is_up_to to a ≡ true
-below-up_to None a b p upto = refl
-below-up_to (Some to) a b p upto = below-not_back a to (is_below-to_most a b to p (not_false (is_below to b) upto))
+up-from_below : (to : Option Bytes) (row : Bytes) → IsBelowEnd row to → is_up_to to row ≡ true
+up-from_below None row below = refl
+up-from_below (Some to) row below = below-not_back row to below
 
 -- the lower bound of a range is below an end row
 abbrev IsUnder : Option Bytes → Option Bytes → Type 0
@@ -68,6 +68,7 @@ module _ (rows : Rows) (from to : Option Bytes) where
     pub outside : (u : TabletRecord) → Contains below u → meets_range rows from to u ≡ false
     pub rest : List TabletRecord
     pub begins : inside ≡ t ∷ rest
+    pub between : (u : TabletRecord) → Contains rest u → EndsBetween from to u.end
     pub front : List TabletRecord
     pub lowest : TabletRecord
     pub finishes : inside ≡ front ++ lowest ∷ []
@@ -88,11 +89,11 @@ module _ (rows : Rows) (from to : Option Bytes) where
   stops-here t ts met outside down = record {
     inside = t ∷ [];
     below = ts;
-    is = record { whole = refl; met = one-met t met; outside = outside; rest = []; begins = refl; front = []; lowest = t; finishes = refl; down = down };
+    is = record { whole = refl; met = one-met t met; outside = outside; rest = []; begins = refl; between = λ u there. absurd (Contains-nil u there); front = []; lowest = t; finishes = refl; down = down };
   }
 
-  goes-on : (t u : TabletRecord) (us : List TabletRecord) → meets_range rows from to t ≡ true → Foot u us → Foot t (u ∷ us)
-  goes-on t u us met foot = record {
+  goes-on : (t u : TabletRecord) (us : List TabletRecord) → meets_range rows from to t ≡ true → EndsBetween from to u.end → Foot u us → Foot t (u ∷ us)
+  goes-on t u us met ends foot = record {
     inside = t ∷ foot.inside;
     below = foot.below;
     is = record {
@@ -104,6 +105,10 @@ module _ (rows : Rows) (from to : Option Bytes) where
       outside = foot.is.outside;
       rest = foot.inside;
       begins = refl;
+      between = λ v there. elim (Contains-cons_cases u v foot.is.rest (subst (λ l. Contains l v) foot.is.begins there)) [
+        | inl is ↦ subst (λ (x : TabletRecord). EndsBetween from to x.end) is ends
+        | inr rest ↦ foot.is.between v rest
+      ];
       front = t ∷ foot.is.front;
       lowest = foot.is.lowest;
       finishes = ap (λ l. t ∷ l) foot.is.finishes;
@@ -148,7 +153,7 @@ module _ (rows : Rows) (from to : Option Bytes) where
       (ap (λ (x : Option Bytes). begins_by x f) at ∙ ap (λ (z : Bytes). not (is_below z low)) (sym same) ∙ ap not most, subst (IsBelowEnd f) (sym is) under)
 
   pub foot_from : (end : Option Bytes) (t : TabletRecord) (ts : List TabletRecord) → IsChainFrom rows end (t ∷ ts) → meets_range rows from to t ≡ true
-      → ((low : Bytes) → effective_prev rows t ≡ Some low → is_up_to to low ≡ true) → IsUnder from end → Foot t ts
+      → ((low : Bytes) → effective_prev rows t ≡ Some low → IsBelowEnd low to) → IsUnder from end → Foot t ts
   foot_from end t [] way met upto under = by (effective_prev rows t) refl way.2
     where
       by : (x : Option Bytes) → effective_prev rows t ≡ x → GoesOn x end (◌≡◌ {A = List TabletRecord} [] []) (λ low. IsChainFrom rows (Some low) []) → Foot t []
@@ -157,11 +162,12 @@ module _ (rows : Rows) (from to : Option Bytes) where
   foot_from end t (u ∷ us) way met upto under = by (effective_prev rows t) refl way.2 (λ low lower m up un. foot_from (Some low) u us lower m up un)
     where
       by : (x : Option Bytes) → effective_prev rows t ≡ x → GoesOn x end (u ∷ us ≡ []) (λ low. IsChainFrom rows (Some low) (u ∷ us))
-          → ((low : Bytes) → IsChainFrom rows (Some low) (u ∷ us) → meets_range rows from to u ≡ true → ((lower : Bytes) → effective_prev rows u ≡ Some lower → is_up_to to lower ≡ true) → IsUnder from (Some low) → Foot u us) → Foot t (u ∷ us)
+          → ((low : Bytes) → IsChainFrom rows (Some low) (u ∷ us) → meets_range rows from to u ≡ true → ((lower : Bytes) → effective_prev rows u ≡ Some lower → IsBelowEnd lower to) → IsUnder from (Some low) → Foot u us) → Foot t (u ∷ us)
       by None e last h = cc
       by (Some low) e more h = choose from low (Foot t (u ∷ us)) refl
-          (λ above. goes-on t u us met (h low more.1 (met-below low u us more.1 above (upto low e))
-          (λ lower at. below-up_to to lower low (more-below (effective_prev rows u) low lower us at more.1.2) (upto low e)) (under-above from low above)))
+          (λ above. goes-on t u us met (subst (EndsBetween from to) (sym more.1.1) (above, upto low e))
+          (h low more.1 (met-below low u us more.1 above (up-from_below to low (upto low e)))
+          (λ lower at. below_end lower low to (more-below (effective_prev rows u) low lower us at more.1.2) (upto low e)) (under-above from low above)))
           (λ g is most. stops-here t (u ∷ us) met (none-below low (u ∷ us) more.1 g is most) (reaches-low from g low t end is e most way.1 under))
 
 -- a range has rows
@@ -173,75 +179,53 @@ is_interval-none : (low : Option Bytes) → is_interval low None ≡ true
 is_interval-none None = refl
 is_interval-none (Some low) = refl
 
--- the piece of a way that meets a range
-abbrev pub Piece : Rows → Option Bytes → Option Bytes → List TabletRecord → Type 0
-Piece rows from to ts = (above : List TabletRecord) × (inside : List TabletRecord) × (below : List TabletRecord) × IsPieceFor rows from to ts above inside below
+-- the piece of a way that meets a range, without what follows of its end rows
+record Parts (rows : Rows) (from to : Option Bytes) (ts : List TabletRecord) : Type 0 where
+  pub above : List TabletRecord
+  pub highest : TabletRecord
+  pub behind : List TabletRecord
+  pub foot : Foot rows from to highest behind
+  pub whole : ts ≡ above ++ highest ∷ behind
+  pub outside : (u : TabletRecord) → Contains above u → meets_range rows from to u ≡ false
+  pub up : ReachesUpTo rows to highest
 
-piece-here : (rows : Rows) (from to : Option Bytes) (t : TabletRecord) (ts : List TabletRecord) → Foot rows from to t ts → ReachesUpTo rows to t → Piece rows from to (t ∷ ts)
-piece-here rows from to t ts foot up = (
-  [],
-  foot.inside,
-  foot.below,
-  record {
-    whole = foot.is.whole;
-    outside_above = λ u there. absurd (Contains-nil u there);
-    met = foot.is.met;
-    outside_below = foot.is.outside;
-    highest = t;
-    rest = foot.is.rest;
-    begins = foot.is.begins;
-    up = up;
-    front = foot.is.front;
-    lowest = foot.is.lowest;
-    finishes = foot.is.finishes;
-    down = foot.is.down;
-  },
-)
+piece-here : (rows : Rows) (from to : Option Bytes) (t : TabletRecord) (ts : List TabletRecord) → Foot rows from to t ts → ReachesUpTo rows to t → Parts rows from to (t ∷ ts)
+piece-here rows from to t ts foot up = record { above = []; highest = t; behind = ts; foot = foot; whole = refl; outside = λ u there. absurd (Contains-nil u there); up = up }
 
-piece-lower : (rows : Rows) (from to : Option Bytes) (t : TabletRecord) (ts : List TabletRecord) → meets_range rows from to t ≡ false → Piece rows from to ts → Piece rows from to (t ∷ ts)
-piece-lower rows from to t ts off p = (
-  t ∷ p.0,
-  p.1,
-  p.2,
-  record {
-    whole = ap (λ l. t ∷ l) p.3.whole;
-    outside_above = λ u there. elim (Contains-cons_cases t u p.0 there) [
-      | inl is ↦ subst (λ (x : TabletRecord). meets_range rows from to x ≡ false) is off
-      | inr rest ↦ p.3.outside_above u rest
-    ];
-    met = p.3.met;
-    outside_below = p.3.outside_below;
-    highest = p.3.highest;
-    rest = p.3.rest;
-    begins = p.3.begins;
-    up = p.3.up;
-    front = p.3.front;
-    lowest = p.3.lowest;
-    finishes = p.3.finishes;
-    down = p.3.down;
-  },
-)
+piece-lower : (rows : Rows) (from to : Option Bytes) (t : TabletRecord) (ts : List TabletRecord) → meets_range rows from to t ≡ false → Parts rows from to ts → Parts rows from to (t ∷ ts)
+piece-lower rows from to t ts off p = record {
+  above = t ∷ p.above;
+  highest = p.highest;
+  behind = p.behind;
+  foot = p.foot;
+  whole = ap (λ l. t ∷ l) p.whole;
+  outside = λ u there. elim (Contains-cons_cases t u p.above there) [
+    | inl is ↦ subst (λ (x : TabletRecord). meets_range rows from to x ≡ false) is off
+    | inr rest ↦ p.outside u rest
+  ];
+  up = p.up;
+}
 
 -- the piece that meets a range up to a row
-piece-to : (rows : Rows) (from : Option Bytes) (to : Bytes) → is_interval from (Some to) ≡ true → (end : Option Bytes) (ts : List TabletRecord) → IsChainFrom rows end ts → is_up_to end to ≡ true → Piece rows from (Some to) ts
+piece-to : (rows : Rows) (from : Option Bytes) (to : Bytes) → is_interval from (Some to) ≡ true → (end : Option Bytes) (ts : List TabletRecord) → IsChainFrom rows end ts → is_up_to end to ≡ true → Parts rows from (Some to) ts
 piece-to rows from to interval end [] way upto = absurd way
 piece-to rows from to interval end (t ∷ ts) way upto = by (effective_prev rows t) refl way.2 (λ low more up. piece-to rows from to interval (Some low) ts more up)
   where
     upto_t : is_up_to t.end to ≡ true
     upto_t = ap (λ (x : Option Bytes). is_up_to x to) way.1 ∙ upto
 
-    here : (x : Option Bytes) → effective_prev rows t ≡ x → is_above x to ≡ true → Piece rows from (Some to) (t ∷ ts)
+    here : (x : Option Bytes) → effective_prev rows t ≡ x → is_above x to ≡ true → Parts rows from (Some to) (t ∷ ts)
     here x e above =
         let holds : holds_row rows t to ≡ true = and_from (is_above (effective_prev rows t) to) (is_up_to t.end to) (ap (λ (y : Option Bytes). is_above y to) e ∙ above) upto_t in
         piece-here rows from (Some to) t ts
         (foot_from rows from (Some to) end t ts way
         (meets-by rows from (Some to) t to holds (and_from (is_above from to) (is_up_to (Some to) to) (above-upper from to interval) (ap not (is_below-itself to))))
-        (λ low at. below-not_back low to (ap (λ (y : Option Bytes). is_above y to) (sym at ∙ e) ∙ above))
+        (λ low at. ap (λ (y : Option Bytes). is_above y to) (sym at ∙ e) ∙ above)
         (under-end from to end (above-upper from to interval) upto))
         holds
 
     by : (x : Option Bytes) → effective_prev rows t ≡ x → GoesOn x end (ts ≡ []) (λ low. IsChainFrom rows (Some low) ts)
-        → ((low : Bytes) → IsChainFrom rows (Some low) ts → is_up_to (Some low) to ≡ true → Piece rows from (Some to) ts) → Piece rows from (Some to) (t ∷ ts)
+        → ((low : Bytes) → IsChainFrom rows (Some low) ts → is_up_to (Some low) to ≡ true → Parts rows from (Some to) ts) → Parts rows from (Some to) (t ∷ ts)
     by None e last h = here None e refl
     by (Some low) e more h = elim (cases_Bool (is_below low to)) [
       | inl above ↦ here (Some low) e above
@@ -252,16 +236,86 @@ piece-to rows from to interval end (t ∷ ts) way upto = by (effective_prev rows
           (h low more.1 (ap not not_above))
     ]
 
-pub piece_of : (rows : Rows) (from to : Option Bytes) (ts : List TabletRecord) → is_interval from to ≡ true → IsChain rows ts → Piece rows from to ts
-piece_of rows from (Some to) ts interval way = piece-to rows from to interval None ts way refl
-piece_of rows from None [] interval way = absurd way
-piece_of rows from None (t ∷ ts) interval way =
+parts_of : (rows : Rows) (from to : Option Bytes) (ts : List TabletRecord) → is_interval from to ≡ true → IsChain rows ts → Parts rows from to ts
+parts_of rows from (Some to) ts interval way = piece-to rows from to interval None ts way refl
+parts_of rows from None [] interval way = absurd way
+parts_of rows from None (t ∷ ts) interval way =
     piece-here rows from None t ts
     (foot_from rows from None None t ts way
     (ap (λ (x : Option Bytes). is_interval (higher_low (effective_prev rows t) from) (lower_high x None)) way.1 ∙ is_interval-none (higher_low (effective_prev rows t) from))
-    (λ low at. refl) (under-last from))
+    (λ low at. tt) (under-last from))
     way.1
   where
     under-last : (f : Option Bytes) → IsUnder f None
     under-last None = tt
     under-last (Some f) = tt
+
+-- a record of a way holds its own end row
+own-end : (rows : Rows) (end : Option Bytes) (ts : List TabletRecord) (t : TabletRecord) (row : Bytes) → IsChainFrom rows end ts → Contains ts t → t.end ≡ Some row → is_above (effective_prev rows t) row ≡ true
+own-end rows end [] t row p there is = absurd p
+own-end rows end (u ∷ us) t row p there is = elim (Contains-cons_cases u t us there) [
+  | inl same ↦ subst (λ (x : TabletRecord). is_above (effective_prev rows x) row ≡ true) same (here (effective_prev rows u) (sym p.1 ∙ ap (λ (x : TabletRecord). x.end) same ∙ is) p.2)
+  | inr rest ↦ past (effective_prev rows u) p.2 rest (λ low way. own-end rows (Some low) us t row way rest is)
+]
+  where
+    here : (x : Option Bytes) → end ≡ Some row → GoesOn x end (us ≡ []) (λ low. IsChainFrom rows (Some low) us) → is_above x row ≡ true
+    here None at last = refl
+    here (Some low) at more = subst (IsBelowEnd low) at more.0
+
+    past : (x : Option Bytes) → GoesOn x end (us ≡ []) (λ low. IsChainFrom rows (Some low) us) → Contains us t → ((low : Bytes) → IsChainFrom rows (Some low) us → is_above (effective_prev rows t) row ≡ true) → is_above (effective_prev rows t) row ≡ true
+    past None last rest h = absurd (none_in us t last rest)
+    past (Some low) more rest h = h low more.1
+
+-- the tablet that reaches up to a range doesn't end below its upper bound
+up-apart : (rows : Rows) (to : Option Bytes) (t : TabletRecord) (row : Bytes) → ReachesUpTo rows to t → t.end ≡ Some row → IsBelowEnd row to → ⊥
+up-apart rows None t row up is below = let wrong = sym up ∙ is in cc
+up-apart rows (Some to) t row up is below =
+    let parts = and_parts (is_above (effective_prev rows t) to) (is_up_to t.end to) up in
+    false≢true (ap not (sym below) ∙ ap (λ (x : Option Bytes). is_up_to x to) (sym is) ∙ parts.1)
+
+module _ (rows : Rows) (from to : Option Bytes) (ts : List TabletRecord) (way : IsChain rows ts) (p : Parts rows from to ts) where
+  all : ts ≡ p.above ++ (p.foot.inside ++ p.foot.below)
+  all = p.whole ∙ ap (λ l. p.above ++ l) p.foot.is.whole
+
+  -- what meets the range is in the piece
+  in_piece : (t : TabletRecord) → Contains ts t → meets_range rows from to t ≡ true → Contains p.foot.inside t
+  in_piece t there met = elim (Contains-append_cases p.above (p.foot.inside ++ p.foot.below) t (subst (λ l. Contains l t) all there)) [
+    | inl up ↦ absurd (false≢true (sym (p.outside t up) ∙ met))
+    | inr rest ↦ elim (Contains-append_cases p.foot.inside p.foot.below t rest) [
+      | inl is ↦ is
+      | inr down ↦ absurd (false≢true (sym (p.foot.is.outside t down) ∙ met))
+    ]
+  ]
+
+  ends-in : (t : TabletRecord) → Contains ts t → (end : Option Bytes) → t.end ≡ end → EndsBetween from to end → Contains p.foot.is.rest t
+  ends-in t there None is between = absurd between
+  ends-in t there (Some row) is between =
+      let holds : holds_row rows t row ≡ true = and_from (is_above (effective_prev rows t) row) (is_up_to t.end row) (own-end rows None ts t row way there is) (ap (λ (x : Option Bytes). is_up_to x row) is ∙ ap not (is_below-itself row)) in
+      let met = meets-by rows from to t row holds (and_from (is_above from row) (is_up_to to row) between.0 (up-from_below to row between.1)) in
+      elim (Contains-cons_cases p.highest t p.foot.is.rest (subst (λ l. Contains l t) p.foot.is.begins (in_piece t there met))) [
+        | inl same ↦ absurd (up-apart rows to p.highest row p.up (ap (λ (x : TabletRecord). x.end) same ∙ is) between.1)
+        | inr rest ↦ rest
+      ]
+
+  piece_from : IsPieceFor rows from to ts p.above p.foot.inside p.foot.below
+  piece_from = record {
+    whole = all;
+    outside_above = p.outside;
+    met = p.foot.is.met;
+    outside_below = p.foot.is.outside;
+    highest = p.highest;
+    lower = p.foot.is.rest;
+    begins = p.foot.is.begins;
+    up = p.up;
+    between = λ t there. (λ in_lower. p.foot.is.between t in_lower, λ between. ends-in t there t.end refl between);
+    front = p.foot.is.front;
+    lowest = p.foot.is.lowest;
+    finishes = p.foot.is.finishes;
+    down = p.foot.is.down;
+  }
+
+pub piece_of : (rows : Rows) (from to : Option Bytes) (ts : List TabletRecord) → is_interval from to ≡ true → IsChain rows ts
+    → (above : List TabletRecord) × (inside : List TabletRecord) × (below : List TabletRecord) × IsPieceFor rows from to ts above inside below
+piece_of rows from to ts interval way =
+    let p = parts_of rows from to ts interval way in
+    (p.above, p.foot.inside, p.foot.below, piece_from rows from to ts way p)

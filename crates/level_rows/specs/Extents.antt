@@ -1,6 +1,6 @@
 -- The extents of a chain's records.
-use Rattle.std.specs.Prelude.{◌≡◌, ℕ, Bool, true, false, not, List, [], ◌∷◌, ◌++◌, Option, Some, None, IsTrue, Contains}
-use Rattle.row_keys.specs.RowOrder.{is_below, is_within, have_common}
+use Rattle.std.specs.Prelude.{◌≡◌, ◌↔◌, ℕ, Bool, true, false, not, List, [], ◌∷◌, ◌++◌, Option, Some, None, IsTrue, Contains}
+use Rattle.row_keys.specs.RowOrder.{is_below, is_above, is_within, have_common}
 use Rattle.metadata_schema.specs.declared.tablet.TabletRecord.{TabletRecord}
 use Rattle.level_rows.specs.Chain.{Rows, effective_prev, IsBelowEnd}
 
@@ -34,16 +34,23 @@ abbrev pub ReachesDownTo : Rows → Option (List ℕ) → TabletRecord → Type 
 ReachesDownTo rows None tablet = effective_prev rows tablet ≡ None
 ReachesDownTo rows (Some from) tablet = IsTrue (begins_by (effective_prev rows tablet) from) × IsBelowEnd from tablet.end
 
--- a chain in three pieces, of which the middle one meets the range
+-- an end row lies above the lower bound of a range, and below its upper bound
+abbrev pub EndsBetween : Option (List ℕ) → Option (List ℕ) → Option (List ℕ) → Type 0
+EndsBetween from to None = ⊥
+EndsBetween from to (Some row) = IsTrue (is_above from row) × IsBelowEnd row to
+
+-- a chain in three pieces, from the last tablet down, of which the middle one meets the range: the tablet that reaches up to its
+-- upper bound, and below it those that end between the bounds
 pub record IsPieceFor (rows : Rows) (from to : Option (List ℕ)) (tablets above inside below : List TabletRecord) : Type 0 where
   pub whole : tablets ≡ above ++ (inside ++ below)
   pub outside_above : (tablet : TabletRecord) → Contains above tablet → meets_range rows from to tablet ≡ false
   pub met : (tablet : TabletRecord) → Contains inside tablet → meets_range rows from to tablet ≡ true
   pub outside_below : (tablet : TabletRecord) → Contains below tablet → meets_range rows from to tablet ≡ false
   pub highest : TabletRecord
-  pub rest : List TabletRecord
-  pub begins : inside ≡ highest ∷ rest
+  pub lower : List TabletRecord
+  pub begins : inside ≡ highest ∷ lower
   pub up : ReachesUpTo rows to highest
+  pub between : (tablet : TabletRecord) → Contains tablets tablet → Contains lower tablet ↔ EndsBetween from to tablet.end
   pub front : List TabletRecord
   pub lowest : TabletRecord
   pub finishes : inside ≡ front ++ lowest ∷ []

@@ -4,7 +4,7 @@ ghost use Rattle.std.specs.List.Sorted.{IsStrictlySortedBy};
 ghost use Rattle.row_keys.specs.RowOrder.{bytes_cmp, is_interval};
 ghost use Rattle.row_keys.specs.MetadataRow.{metadata_row};
 ghost use Rattle.metadata_schema.specs.declared.tablet.TabletRecord.{TabletRecord as Tablet};
-ghost use Rattle.level_rows.specs.Chain.{Rows, IsBelowEnd, IsChain, effective_prev, rows_of};
+ghost use Rattle.level_rows.specs.Chain.{Rows, IsBelowEnd, IsChain, IsChainOf, effective_prev, rows_of};
 ghost use Rattle.level_rows.specs.Broken.{IsBroken};
 ghost use Rattle.level_rows.specs.Extents.{HasOneFor, IsPieceFor};
 ghost use Rattle.level_rows.specs.LeftOver.{AreDistinct, AreLeftOver};
@@ -21,7 +21,8 @@ pub fn a_chain_is_not_broken()
 
 /// Each row lies in just one extent of a chain.
 pub fn each_row_lies_in_one_extent()
-    ensures { (rows : Rows) (tablets : List Tablet) (row : List ℕ) → IsChain rows tablets → HasOneFor rows tablets row }
+    ensures of { (table : List ℕ) (records tablets : List Tablet) (row : List ℕ) → IsChainOf table records tablets → HasOneFor (rows_of table records) tablets row }
+    ensures down { (rows : Rows) (tablets : List Tablet) (row : List ℕ) → IsChain rows tablets → HasOneFor rows tablets row }
 {}
 
 /// A tablet of a chain begins where the next lower one ends, and the lowest one has no lower bound. Each is found at its end

@@ -94,7 +94,8 @@ fn a_new_store_has_two_metadata_tablets(rt: HostRuntime) -> Result<(), Fail> {
     let records = [first, last];
     let rows = chained(alloc, b"!0", &records)?;
     assert_eq!(rt; rows.as_slice(), b"!0;~ !0< ".as_slice());
-    let broken = chained(alloc, b"!0", &records[1..])?;
+    let last = tablet(alloc, b"!0", None, Some(b"~"))?;
+    let broken = chained(alloc, b"!0", &[last])?;
     assert_eq!(rt; broken.as_slice(), b"none".as_slice());
     Ok(())
 }
