@@ -1,15 +1,14 @@
 -- A chain while rows beside it change, and one that is made row by row.
-use Rattle.std.proofs.Common.{◌≡◌, ◌≢◌, ◌⊎◌, inl, inr, ℕ, List, [], ◌∷◌, ◌++◌, Bool, true, false, cond, reverse, Option, Some, None, Contains, refl, sym, ◌∙◌, ap, subst, append_assoc, append-nil}
+use Rattle.std.proofs.Common.{◌≡◌, ◌≢◌, inl, inr, List, [], ◌∷◌, ◌++◌, Bool, true, false, cond, reverse, Option, Some, None, Contains, refl, sym, ◌∙◌, ap, subst, append_assoc, append-nil}
 use Rattle.std.specs.Prelude.{is_some}
-use Rattle.std.proofs.lemmas.Bool.{cases_Bool, false≢true}
 use Rattle.std.proofs.lemmas.List.{reverse-append}
 use Rattle.std.proofs.lemmas.Option.{same_Some}
 use Rattle.row_keys.specs.RowOrder.{is_above}
 use Rattle.metadata_schema.specs.declared.tablet.TabletRecord.{TabletRecord}
 use Rattle.level_rows.specs.Chain.{Rows, ends_at, chosen_prev, effective_prev, same_end, IsBelowEnd, GoesOn, IsChainFrom, IsChain}
-use Rattle.level_rows.specs.Changes.{with_row, without_row, StandAsBefore, IsBeside, IsLinked, EndsOr}
-use Rattle.level_rows.proofs.Membership.{Contains-nil, Contains-here, Contains-there, Contains-cons_cases}
-use Rattle.level_rows.proofs.EndLemmas.{same_end-true, same_end-refl, same_end-apart}
+use Rattle.level_rows.specs.Changes.{with_row, without_row, IsBeside, IsLinked, EndsOr}
+use Rattle.level_rows.proofs.Membership.{Contains-here, Contains-there, Contains-cons_cases}
+use Rattle.level_rows.proofs.EndLemmas.{same_end-true, same_end-apart}
 use Rattle.level_rows.proofs.WayLemmas.{Bytes, none_in, not_empty}
 use Rattle.level_rows.proofs.RewireLemmas.{framed, whole-reach, with_row-apart}
 

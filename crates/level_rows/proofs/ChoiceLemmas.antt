@@ -1,5 +1,5 @@
 -- A chain that is there, and one that isn't.
-use Rattle.std.proofs.Common.{◌≡◌, List, [], ◌∷◌, Bor, Option, Some, None, IsSome, sym, ◌∙◌, subst, refl}
+use Rattle.std.proofs.Common.{◌≡◌, List, [], ◌∷◌, Bor, Option, Some, None, IsSome, ◌∙◌, subst, refl}
 use Rattle.std.specs.Prelude.{IfSome, IfNone}
 use Rattle.std.specs.Option.{option_copied}
 use Rattle.metadata_schema.specs.declared.tablet.TabletRecord.{TabletRecord}

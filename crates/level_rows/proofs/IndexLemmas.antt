@@ -1,7 +1,7 @@
 -- The map of a table's records, as records come one after another.
-use Rattle.std.proofs.Common.{◌≡◌, ◌≢◌, inl, inr, List, [], ◌∷◌, ◌++◌, Bool, true, false, cond, Bor, Option, Some, None, Contains, map, refl, sym, ◌∙◌, ap, subst}
-use Rattle.std.specs.Prelude.{is_some, find}
-use Rattle.std.specs.BTreeMap.{insert_entry, is_at}
+use Rattle.std.proofs.Common.{◌≡◌, inl, inr, List, [], ◌∷◌, ◌++◌, Bool, true, false, cond, Bor, Option, Some, None, refl, sym, ◌∙◌, ap, subst}
+use Rattle.std.specs.Prelude.{is_some}
+use Rattle.std.specs.BTreeMap.{insert_entry}
 use Rattle.std.specs.List.{AllByRecursion}
 use Rattle.std.specs.List.Sorted.{IsStrictlySortedBy}
 use Rattle.std.specs.Map.{lookup, keys_of}
@@ -20,7 +20,7 @@ use Rattle.level_rows.specs.Chain.{rows_of, is_named}
 use Rattle.level_rows.specs.Index.{Ends, IsIndexOf, FindsOwn, found_at}
 use Rattle.level_rows.proofs.EndLemmas.{end_cmp-equal, named-parts, named-from}
 use Rattle.level_rows.proofs.LookupLemmas.{row-there}
-use Rattle.level_rows.proofs.WalkLemmas.{Entries, at_end, at_end-true}
+use Rattle.level_rows.proofs.WalkLemmas.{Entries, at_end}
 use Rattle.level_rows.proofs.WayLemmas.{Bytes}
 
 abbrev pub in_order : Bor (Option Bytes) → Bor (Option Bytes) → Ordering

@@ -1,12 +1,11 @@
 -- The records that are left over, in order.
 use Rattle.std.proofs.Common.{◌≡◌, ◌↔◌, inl, inr, List, [], ◌∷◌, Bool, true, false, cond, not, Bor, Option, Some, None, Contains, map, refl, sym, ◌∙◌, ap, subst}
-use Rattle.std.specs.Prelude.{is_some, find}
+use Rattle.std.specs.Prelude.{is_some}
 use Rattle.std.specs.List.{AllByRecursion, filter}
 use Rattle.std.specs.List.Sorted.{IsStrictlySortedBy}
 use Rattle.std.specs.Map.{lookup, keys_of, values_of}
 use Rattle.std.specs.Map.Iter.{deref}
 use Rattle.std.specs.Option.{option_copied, option_cmp}
-use Rattle.std.specs.declared.cmp.Ordering.{Ordering}
 use Rattle.std.specs.declared.cmp.Ordering.TheVariants.{Less, Equal}
 use Rattle.std.proofs.lemmas.Bool.{false≢true}
 use Rattle.std.proofs.lemmas.Option.{same_Some}
@@ -14,7 +13,7 @@ use Rattle.std.proofs.lemmas.Cmp.{tied_itself}
 use Rattle.row_keys.specs.RowOrder.{bytes_cmp}
 use Rattle.row_keys.specs.MetadataRow.{end_cmp}
 use Rattle.metadata_schema.specs.declared.tablet.TabletRecord.{TabletRecord}
-use Rattle.level_rows.specs.Chain.{Rows, rows_of, is_named, IsChain, IsChainFrom}
+use Rattle.level_rows.specs.Chain.{Rows, rows_of, is_named, IsChain}
 use Rattle.level_rows.specs.LeftOver.{AreDistinct, AreLeftOver}
 use Rattle.level_rows.specs.Index.{Ends, IsIndexOf, found_at, is_apart, records_in}
 use Rattle.level_rows.proofs.Membership.{Contains-nil, Contains-here, Contains-there, Contains-cons_cases, Contains-filter, Contains-in_filter}

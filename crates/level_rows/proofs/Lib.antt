@@ -9,6 +9,7 @@ pub mod LookupLemmas
 pub mod IndexLemmas
 pub mod LeftLemmas
 pub mod ChoiceLemmas
+pub mod FootLemmas
 pub mod RangeLemmas
 pub mod BesideLemmas
 pub mod OneListLemmas

@@ -1,11 +1,10 @@
 -- Records looked up by their names.
-use Rattle.std.proofs.Common.{◌≡◌, ◌≢◌, ◌⊎◌, ◌↔◌, inl, inr, ℕ, suc, ◌<◌, List, [], ◌∷◌, ◌++◌, length, Bool, true, false, cond, Option, Some, None, Contains, refl, sym, ◌∙◌, ap, subst, arith}
+use Rattle.std.proofs.Common.{◌≡◌, ◌≢◌, ◌↔◌, inl, inr, ℕ, suc, List, [], ◌∷◌, Bool, true, false, cond, Option, Some, None, Contains, refl, sym, ◌∙◌, ap, subst, arith}
 use Rattle.std.specs.Prelude.{is_some, find}
-use Rattle.std.specs.List.{AllPairs}
-use Rattle.std.proofs.lemmas.Bool.{cases_Bool, false≢true}
+use Rattle.std.proofs.lemmas.Bool.{false≢true}
 use Rattle.std.proofs.lemmas.Option.{same_Some}
 use Rattle.metadata_schema.specs.declared.tablet.TabletRecord.{TabletRecord}
-use Rattle.level_rows.specs.Chain.{Rows, rows_of, is_named, same_end}
+use Rattle.level_rows.specs.Chain.{rows_of, is_named, same_end}
 use Rattle.level_rows.specs.LeftOver.{AreDistinct}
 use Rattle.level_rows.specs.Changes.{with_row, without_row, IsWritten, IsTakenOut}
 use Rattle.level_rows.proofs.Membership.{Contains-nil, Contains-here, Contains-there, Contains-cons_cases}

@@ -1,5 +1,5 @@
 -- Records in the order of their end rows make up one list, and records in row order are distinct.
-use Rattle.std.proofs.Common.{◌≡◌, ◌≢◌, inl, inr, ℕ, zero, suc, ◌<◌, List, [], ◌∷◌, length, Option, Some, None, Contains, map, refl, sym, ◌∙◌, ap, subst, arith}
+use Rattle.std.proofs.Common.{◌≡◌, ◌≢◌, inl, inr, zero, suc, List, [], ◌∷◌, Option, Some, None, Contains, map, refl, sym, ◌∙◌, ap, subst, arith}
 use Rattle.std.specs.List.{AllByRecursion}
 use Rattle.std.specs.List.Sorted.{IsStrictlySortedBy}
 use Rattle.std.specs.Ordering.{is_lt}
@@ -7,7 +7,7 @@ use Rattle.std.specs.declared.cmp.Ordering.TheVariants.{Less}
 use Rattle.std.proofs.lemmas.Bool.{false≢true}
 use Rattle.std.proofs.lemmas.Option.{same_Some}
 use Rattle.std.proofs.lemmas.List.Elements.{Contains-get_or}
-use Rattle.row_keys.specs.RowOrder.{bytes_cmp, is_below}
+use Rattle.row_keys.specs.RowOrder.{bytes_cmp}
 use Rattle.row_keys.specs.MetadataRow.{end_cmp, metadata_row}
 use Rattle.row_keys.proofs.RowOrderLemmas.{is_below-itself, is_below-trans}
 use Rattle.metadata_schema.specs.declared.tablet.TabletRecord.{TabletRecord}

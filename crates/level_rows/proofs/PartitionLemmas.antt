@@ -1,11 +1,11 @@
 -- Each row lies in one extent of a chain.
-use Rattle.std.proofs.Common.{◌≡◌, ℕ, inl, inr, List, [], ◌∷◌, Bool, true, false, not, Option, Some, None, reverse, Contains, refl, sym, ◌∙◌, ap, subst}
+use Rattle.std.proofs.Common.{◌≡◌, inl, inr, List, [], ◌∷◌, true, false, not, Option, Some, None, reverse, Contains, refl, sym, ◌∙◌, ap, subst}
 use Rattle.std.proofs.lemmas.Bool.{cases_Bool, and_parts, and_from, false≢true}
-use Rattle.row_keys.specs.RowOrder.{is_below, is_above, is_up_to, is_within}
+use Rattle.row_keys.specs.RowOrder.{is_below, is_above, is_up_to}
 use Rattle.metadata_schema.specs.declared.tablet.TabletRecord.{TabletRecord}
-use Rattle.level_rows.specs.Chain.{Rows, effective_prev, IsBelowEnd, GoesOn, IsChainFrom, IsChain, IsChainOf, rows_of}
+use Rattle.level_rows.specs.Chain.{Rows, effective_prev, GoesOn, IsChainFrom, IsChain, IsChainOf, rows_of}
 use Rattle.level_rows.specs.Extents.{holds_row, HasOneFor}
-use Rattle.level_rows.proofs.Membership.{Contains-nil, Contains-here, Contains-there, Contains-cons_cases, Contains-reverse, Contains-in_reverse}
+use Rattle.level_rows.proofs.Membership.{Contains-here, Contains-there, Contains-cons_cases, Contains-reverse, Contains-in_reverse}
 use Rattle.level_rows.proofs.WayLemmas.{Bytes, up_to_end, none_in}
 
 -- the rows that a record of the way holds are not above the way

@@ -1,14 +1,13 @@
 -- How a chain stands while rows around it change.
-use Rattle.std.proofs.Common.{◌≡◌, ◌≢◌, ◌⊎◌, inl, inr, ℕ, List, [], ◌∷◌, ◌++◌, Bool, true, false, cond, Option, Some, None, Contains, refl, sym, ◌∙◌, ap, subst}
+use Rattle.std.proofs.Common.{◌≡◌, ◌≢◌, List, [], ◌∷◌, ◌++◌, Bool, true, false, cond, Option, Some, None, Contains, refl, sym, ◌∙◌, ap, subst}
 use Rattle.std.specs.Prelude.{is_some}
-use Rattle.std.proofs.lemmas.Bool.{cases_Bool, false≢true}
 use Rattle.row_keys.specs.RowOrder.{is_above}
 use Rattle.metadata_schema.specs.declared.tablet.TabletRecord.{TabletRecord}
-use Rattle.level_rows.specs.Chain.{Rows, ends_at, chosen_prev, effective_prev, same_end, IsBelowEnd, GoesOn, IsChainFrom, IsChain}
-use Rattle.level_rows.specs.Changes.{StandAsBefore, with_row, without_row}
-use Rattle.level_rows.proofs.Membership.{Contains-here, Contains-there, Contains-cons_cases}
+use Rattle.level_rows.specs.Chain.{Rows, ends_at, chosen_prev, effective_prev, same_end, IsBelowEnd, GoesOn, IsChainFrom}
+use Rattle.level_rows.specs.Changes.{StandAsBefore, with_row}
+use Rattle.level_rows.proofs.Membership.{Contains-here, Contains-there}
 use Rattle.level_rows.proofs.EndLemmas.{same_end-true, same_end-refl, same_end-apart}
-use Rattle.level_rows.proofs.WayLemmas.{Bytes, goes_from, not_empty, behind, apart_ends, row_of}
+use Rattle.level_rows.proofs.WayLemmas.{Bytes, goes_from, not_empty, behind}
 
 stand-tail : (old new : Rows) (t : TabletRecord) (ts : List TabletRecord) → StandAsBefore old new (t ∷ ts) → StandAsBefore old new ts
 stand-tail old new t ts same = record { row = λ u there. same.row u (Contains-there t u ts there); prev = λ u there. same.prev u (Contains-there t u ts there) }

@@ -1,16 +1,14 @@
 -- A chain in the three steps of a split, and in a merge.
-use Rattle.std.proofs.Common.{◌≡◌, ◌≢◌, ◌⊎◌, inl, inr, ℕ, List, [], ◌∷◌, ◌++◌, Bool, true, false, cond, Option, Some, None, Contains, refl, sym, ◌∙◌, ap, subst, append_assoc}
+use Rattle.std.proofs.Common.{◌≡◌, ◌≢◌, ◌⊎◌, inl, inr, List, [], ◌∷◌, ◌++◌, true, false, cond, Option, Some, None, Contains, refl, sym, ◌∙◌, ap, subst, append_assoc}
 use Rattle.std.specs.Prelude.{is_some}
-use Rattle.std.proofs.lemmas.Bool.{cases_Bool, false≢true}
 use Rattle.std.proofs.lemmas.List.Elements.{Contains-append_left, Contains-append_right, Contains-append_cases}
 use Rattle.row_keys.specs.RowOrder.{is_above}
 use Rattle.metadata_schema.specs.declared.tablet.TabletRecord.{TabletRecord}
-use Rattle.level_rows.specs.Chain.{Rows, ends_at, chosen_prev, effective_prev, same_end, IsBelowEnd, IsChainFrom, IsChain}
+use Rattle.level_rows.specs.Chain.{Rows, ends_at, chosen_prev, effective_prev, IsBelowEnd, IsChain}
 use Rattle.level_rows.specs.Changes.{StandAsBefore, with_row}
 use Rattle.level_rows.specs.LeftOver.{IsLeftOver}
 use Rattle.level_rows.specs.Splits.{MaySplit, IsBegun, IsLowerHalf, IsUpperHalf, HasExtentOf}
 use Rattle.level_rows.proofs.Membership.{Contains-here, Contains-there, Contains-cons_cases}
-use Rattle.level_rows.proofs.EndLemmas.{same_end-true, same_end-refl}
 use Rattle.level_rows.proofs.WayLemmas.{Bytes, apart_ends, row_of, not_twice}
 use Rattle.level_rows.proofs.RewireLemmas.{IsLowerEnd, rewired_at, inserted_at, with_row-at, with_row-apart, effective_prev-with_row, stand-with_row, whole-reach}
 

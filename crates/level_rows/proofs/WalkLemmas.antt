@@ -1,19 +1,19 @@
 -- The walk down the map of a table's records.
-use Rattle.std.proofs.Common.{◌≡◌, ◌≢◌, ◌⊎◌, inl, inr, ℕ, ◌<◌, ◌≤◌, List, [], ◌∷◌, ◌++◌, Bool, true, false, cond, not, Bor, Option, Some, None, Contains, refl, sym, ◌∙◌, ap, subst, append_assoc, arith, ◌+◌}
+use Rattle.std.proofs.Common.{◌≡◌, inl, inr, ℕ, ◌<◌, ◌≤◌, List, [], ◌∷◌, ◌++◌, Bool, true, false, cond, not, Bor, Option, Some, None, refl, sym, ◌∙◌, ap, subst, append_assoc, arith, ◌+◌}
 use Rattle.std.specs.Prelude.{is_some, is_none}
-use Rattle.std.specs.Map.{lookup, keys_of}
+use Rattle.std.specs.Map.{lookup}
 use Rattle.std.specs.BTreeMap.{is_at}
 use Rattle.std.specs.Option.{option_copied, option_cmp}
 use Rattle.std.specs.Ordering.{is_eq}
 use Rattle.std.specs.declared.cmp.Ordering.{Ordering}
 use Rattle.std.specs.declared.cmp.Ordering.TheVariants.{Less, Equal, Greater}
-use Rattle.std.proofs.lemmas.Bool.{cases_Bool, false≢true}
-use Rattle.row_keys.specs.RowOrder.{bytes_cmp, is_below, is_up_to}
+use Rattle.std.proofs.lemmas.Bool.{false≢true}
+use Rattle.row_keys.specs.RowOrder.{bytes_cmp, is_up_to}
 use Rattle.row_keys.proofs.RowOrderLemmas.{is_below-itself}
 use Rattle.level_rows.proofs.EndLemmas.{end_cmp-equal}
 use Rattle.metadata_schema.specs.declared.tablet.TabletRecord.{TabletRecord}
 use Rattle.level_rows.specs.Chain.{Rows, effective_prev, IsBelowEnd, GoesOn, IsChainFrom, IsChain}
-use Rattle.level_rows.specs.Broken.{BreaksFrom, BreaksOff}
+use Rattle.level_rows.specs.Broken.{BreaksFrom}
 use Rattle.level_rows.specs.Index.{is_below_end, found_at, Ends}
 use Rattle.level_rows.proofs.WayLemmas.{Bytes, up_to_end}
 

@@ -1,5 +1,5 @@
 -- The chain of a table: the way of its records by effective previous rows, from the last tablet down.
-use Rattle.std.specs.Prelude.{◌≡◌, ℕ, Bool, true, false, ◌&&◌, List, [], ◌∷◌, Option, Some, None, is_some, IsTrue, find, reverse, if◌then◌else◌}
+use Rattle.std.specs.Prelude.{◌≡◌, ℕ, Bool, false, ◌&&◌, List, [], ◌∷◌, Option, Some, None, is_some, IsTrue, find, reverse, if◌then◌else◌}
 use Rattle.std.specs.Option.{option_eq}
 use Rattle.row_keys.specs.RowOrder.{is_below}
 use Rattle.metadata_schema.specs.declared.tablet.TabletRecord.{TabletRecord}

@@ -7,7 +7,7 @@ use Rattle.std.specs.Map.Iter.{deref}
 use Rattle.std.specs.Borrow.{Bor}
 use Rattle.row_keys.specs.RowOrder.{bytes_cmp, is_below}
 use Rattle.metadata_schema.specs.declared.tablet.TabletRecord.{TabletRecord}
-use Rattle.level_rows.specs.Chain.{Rows, rows_of}
+use Rattle.level_rows.specs.Chain.{rows_of}
 
 abbrev pub Ends : Type 0
 Ends = BTreeMap (Bor (Option (List ℕ))) (Bor TabletRecord)

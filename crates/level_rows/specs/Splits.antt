@@ -1,5 +1,5 @@
 -- The three steps of a split.
-use Rattle.std.specs.Prelude.{◌≡◌, ◌≢◌, ◌⊎◌, ℕ, List, Option, Some, None, IsTrue, Contains}
+use Rattle.std.specs.Prelude.{◌≡◌, ◌≢◌, ◌⊎◌, ℕ, List, Some, None, IsTrue, Contains}
 use Rattle.row_keys.specs.RowOrder.{is_above}
 use Rattle.metadata_schema.specs.declared.tablet.TabletRecord.{TabletRecord}
 use Rattle.level_rows.specs.Chain.{Rows, IsBelowEnd}

@@ -1,7 +1,6 @@
-use Rattle.std.proofs.Common.{◌≡◌, ◌∙◌, sym, ap, subst, List, reverse}
+use Rattle.std.proofs.Common.{◌≡◌, ◌∙◌, sym, ap, subst, reverse}
 use Rattle.std.proofs.lemmas.List.{reverse-reverse}
-use Rattle.metadata_schema.specs.declared.tablet.TabletRecord.{TabletRecord}
-use Rattle.level_rows.specs.Chain.{Rows, rows_of, IsChain}
+use Rattle.level_rows.specs.Chain.{Rows, IsChain}
 use Rattle.level_rows.specs.Broken.{IsBroken}
 use Rattle.level_rows.specs.Index.{found_at}
 use Rattle.level_rows.proofs.ChoiceLemmas.{none_of, some_of}
