@@ -55,4 +55,6 @@ fn main(rt: HostRuntime) -> ExitCode {
 #[cfg(test)]
 mod data_file_tests;
 #[cfg(test)]
+mod log_tests;
+#[cfg(test)]
 mod tests;

@@ -1,0 +1,10 @@
+pub mod ManyLemmas
+pub mod RisingLemmas
+pub mod UpdateLemmas
+pub mod MutationLemmas
+pub mod OrderLemmas
+pub mod SortLemmas
+pub mod SortedLemmas
+pub mod LogLemmas
+pub mod NameLemmas
+pub mod WholeLemmas
