@@ -1,12 +1,11 @@
 -- Logs as journals of mutations.
-use Rattle.std.proofs.Common.{◌≡◌, ◌≢◌, inl, inr, ℕ, zero, suc, ◌+◌, ◌^◌, ◌<◌, ◌≤◌, List, [], ◌∷◌, ◌++◌, length, get_or, take, map, All, Some, Option, Result, Ok, Err, OnOk, IsTrue, refl, sym, ◌∙◌, ap, subst, arith}
+use Rattle.std.proofs.Common.{◌≡◌, ◌≢◌, inl, inr, ℕ, zero, suc, ◌+◌, ◌^◌, ◌<◌, List, [], ◌∷◌, ◌++◌, length, get_or, take, map, All, Result, refl, sym, ◌∙◌, ap, subst, arith}
 use Rattle.std.proofs.lemmas.List.{map-append, take_more}
 use Rattle.std.proofs.lemmas.List.Elements.{All-nil, All-cons, All-head, All-tail, All-push, All-weaker}
 use Rattle.std.proofs.lemmas.Option.{same_Some}
 use Rattle.std.proofs.lemmas.Result.{on_ok_weaker}
-use Rattle.host_model.specs.Picture.{Image, Picture, file_at}
+use Rattle.host_model.specs.Picture.{Image}
 use Rattle.host_model.specs.State.{HostState}
-use Rattle.host_model.specs.Leaves.{LeavesOnly}
 use Rattle.host_model.specs.declared.fault.Stop.{Stop}
 use Rattle.host_model.specs.declared.fault.Stop.TheVariants.{Host, Damaged, Full, NoMemory}
 use Rattle.host_model.proofs.LeavesLemmas.{leaves_weaker}
@@ -84,9 +83,6 @@ pub appends_mutation : (log framed : Bytes) (end : ℕ) (ms : List Mutation) (m 
 appends_mutation log framed end ms m result a b is holds appends =
     of_spelling ms m is.spelled holds (subst (λ bytes. Appends log end (records_of ms) bytes result a b) is.is (appends (records_of ms) holds.holds))
 
-pub holds_none : {log : Bytes} {image : Image} → Holds log 0 [] image → HoldsLog log 0 [] image
-holds_none holds = record { holds = holds; each = All-nil IsSpelled }
-
 -- ---- reading
 
 pub has_log : {log : Bytes} {end : ℕ} {records : List Bytes} {ms : List Mutation} {image : Image} → Holds log end records image → AreMutations records ms → HasLog log ms image
@@ -111,9 +107,6 @@ not_opened log Full a b cause = cause
 not_opened log NoMemory a b cause = cause
 
 -- ---- the records of a log, one by one
-
-pub long_entry : (bytes : Bytes) → 2 ^ 32 ≤ length bytes → IsNoEntry bytes
-long_entry bytes long = record { none = λ m is. (let short = is.logged.short in omega (arith, long, short, ap (length {A = ℕ}) is.is)) }
 
 no_first : (x : Bytes) (xs : List Bytes) → IsNoEntry x → AreNoMutations (x ∷ xs)
 no_first x xs lacks = record { none = by }

@@ -1,9 +1,9 @@
 -- What stands in front of bytes is one mutation, and one rest.
-use Rattle.std.proofs.Common.{◌≡◌, inl, inr, ℕ, ◌^◌, ◌<◌, ◌≤◌, List, [], ◌∷◌, ◌++◌, length, refl, sym, ◌∙◌, ap, subst, arith, append_assoc}
-use Rattle.std.specs.Int.{w8, w16, w64}
+use Rattle.std.proofs.Common.{◌≡◌, inl, inr, ℕ, ◌^◌, ◌<◌, ◌≤◌, List, [], ◌++◌, length, sym, ◌∙◌, ap, subst, arith, append_assoc}
+use Rattle.std.specs.Int.{w64}
 use Rattle.std.proofs.lemmas.List.{append-nil}
 use Rattle.row_keys.specs.Forms.{IsTableId}
-use Rattle.bytes_form.specs.Fields.{number_field, short_field, long_field, Takes, TakesNone}
+use Rattle.bytes_form.specs.Fields.{number_field, short_field, long_field, Takes}
 use Rattle.bytes_form.specs.PrefixFree.{IsPrefixFree}
 use Rattle.bytes_form.proofs.FieldsLemmas.{IsPrefixFree-number}
 use Rattle.metadata_schema.specs.declared.mutation.Update.{Update}
@@ -31,18 +31,12 @@ same_time a b x y one two e = IsPrefixFree-number w64 a b x y (omega (arith, one
 IsPrefixFree-time : IsPrefixFree FitsTime (number_field w64)
 IsPrefixFree-time a b x y one two e = same_time a b x y (omega (arith, one)) (omega (arith, two)) e
 
-pub no_table : (bytes : Bytes) → TakesNone short_field bytes → StartsNone IsTableId short_field bytes
-no_table bytes none = record { none = λ table rest starts. none table rest starts.is }
-
 pub other_table : (bytes table x : Bytes) → Takes (short_field table) x bytes → length table < 2 ^ 8 → (IsTableId table → ⊥) → StartsNone IsTableId short_field bytes
 other_table bytes table x takes fits other = record {
   none = λ id rest starts.
       let same = (same_short table id x rest fits (table_short id starts.value_fits) (sym takes.is ∙ starts.is)).0 in
       other (subst IsTableId (sym same) starts.value_fits);
 }
-
-pub no_row : (bytes : Bytes) → TakesNone long_field bytes → StartsNone FitsRow long_field bytes
-no_row bytes none = record { none = λ row rest starts. none row rest starts.is }
 
 pub long_row : (bytes row x : Bytes) → Takes (long_field row) x bytes → length row < 2 ^ 16 → 300 < length row → StartsNone FitsRow long_field bytes
 long_row bytes row x takes fits long = record {
@@ -51,9 +45,6 @@ long_row bytes row x takes fits long = record {
       let same = (same_long row other x rest fits (omega (arith, most)) (sym takes.is ∙ starts.is)).0 in
       omega (arith, long, most, ap (length {A = ℕ}) same);
 }
-
-pub no_time : (bytes : Bytes) → TakesNone (number_field w64) bytes → StartsNone FitsTime (number_field w64) bytes
-no_time bytes none = record { none = λ time rest starts. none time rest starts.is }
 
 pub late_time : (bytes : Bytes) (time : ℕ) (x : Bytes) → Takes (number_field w64 time) x bytes → time < 2 ^ 64 → 2 ^ 63 ≤ time → StartsNone FitsTime (number_field w64) bytes
 late_time bytes time x takes fits late = record {

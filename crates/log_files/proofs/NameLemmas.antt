@@ -1,12 +1,12 @@
 -- The names of a log's files are names of files.
-use Rattle.std.proofs.Common.{◌≡◌, inl, inr, ℕ, zero, suc, ◌+◌, ◌<◌, ◌≤◌, ◌&&◌, nat_le, Bool, true, false, IsTrue, codes, List, [], ◌∷◌, ◌++◌, length, get_or, drop, refl, sym, ◌∙◌, ap, subst, arith}
+use Rattle.std.proofs.Common.{◌≡◌, ℕ, zero, suc, ◌<◌, true, List, [], ◌∷◌, refl, sym, subst, arith}
 use Rattle.std.specs.List.{list_all}
 use Rattle.std.specs.Str.{IsUtf8, IsAscii}
-use Rattle.std.proofs.lemmas.Bool.{and_parts, and_from, cases_Bool}
+use Rattle.std.proofs.lemmas.Bool.{and_parts, and_from}
 use Rattle.std.proofs.lemmas.Bool.Decides.{nat_tests}
 use Rattle.std.proofs.lemmas.Str.{IsUtf8-from_ascii}
 use Rattle.host_model.specs.FileName.{is_name_byte, IsFileName}
-use Rattle.row_keys.specs.Forms.{is_hexadecimal, IsSessionId, IsLogName}
+use Rattle.row_keys.specs.Forms.{is_hexadecimal, IsLogName}
 use Rattle.log_files.specs.Sorted.{sorted_name}
 
 hexadecimal : (byte : ℕ) → is_hexadecimal byte ≡ true → is_name_byte byte ≡ true
@@ -26,9 +26,6 @@ log_form log is = subst IsFileName (sym is.is) (record { some = omega arith; sho
 
 pub sorted_form : (log : List ℕ) → IsLogName log → IsFileName (sorted_name log)
 sorted_form log is = subst (λ l. IsFileName (sorted_name l)) (sym is.is) (record { some = omega arith; short = (let most = is.form.most in omega (arith, most)); each = all_names is.session is.form.each })
-
-pub log_long : (log : List ℕ) → IsLogName log → 4 ≤ length log
-log_long log is = let e = ap (length {A = ℕ}) is.is in omega (arith, e)
 
 all_ascii : (bytes : List ℕ) → list_all is_name_byte bytes ≡ true → IsAscii bytes
 all_ascii [] all i = omega arith

@@ -1,15 +1,14 @@
 -- What a stable sort gives, and that it is one.
-use Rattle.std.proofs.Common.{◌≡◌, ◌⊎◌, inl, inr, ℕ, zero, suc, ◌+◌, ◌-◌, ◌<◌, ◌≤◌, ◌&&◌, List, [], ◌∷◌, ◌++◌, length, get_or, map, not, cond, Bool, true, false, Contains, refl, sym, ◌∙◌, ap, subst, arith, add-one}
+use Rattle.std.proofs.Common.{◌≡◌, inl, inr, ℕ, suc, ◌+◌, ◌<◌, ◌&&◌, List, [], ◌∷◌, length, get_or, map, not, cond, Bool, true, false, refl, sym, ◌∙◌, ap, subst, arith, add-one}
 use denote.Ref.{Bor}
 use Rattle.std.specs.Cmp.{IsStrictWeakOrder}
 use Rattle.std.specs.List.{filter}
 use Rattle.std.specs.List.Sorted.{IsPermutation, IsSortedBy, IsStableBy, ties}
 use Rattle.std.proofs.lemmas.Bool.{cases_Bool, false≢true}
 use Rattle.std.proofs.lemmas.List.{get_or-map, length-map}
-use Rattle.std.proofs.lemmas.List.Elements.{Contains-get_or}
 use Rattle.std.proofs.lemmas.List.Sorted.{IsPermutation-map, ranks_by, sorted_far}
 use Rattle.metadata_schema.specs.declared.mutation.Mutation.{Mutation}
-use Rattle.log_files.specs.Sorted.{mutation_cmp, AreInOrder, IsStableSortOf}
+use Rattle.log_files.specs.Sorted.{AreInOrder, IsStableSortOf}
 use Rattle.log_files.proofs.OrderLemmas.{mutation_total, before, before_ranks}
 
 -- ---- references that are sorted

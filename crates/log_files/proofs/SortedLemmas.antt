@@ -1,5 +1,5 @@
 -- A sorted log's parts, as they are written and read.
-use Rattle.std.proofs.Common.{◌≡◌, inl, inr, Bool, true, false, not, ℕ, ◌+◌, ◌^◌, ◌<◌, ◌≤◌, codes, List, [], ◌∷◌, ◌++◌, length, take, drop, All, Some, None, Option, Result, Ok, Err, OnOk, IsTrue, refl, sym, ◌∙◌, ap, subst, arith, append_assoc, length-append, length-take, take-append-drop}
+use Rattle.std.proofs.Common.{◌≡◌, inl, inr, Bool, true, false, not, ℕ, ◌+◌, ◌^◌, ◌<◌, ◌≤◌, codes, List, [], ◌∷◌, ◌++◌, length, take, drop, Some, Option, Result, Ok, Err, IsTrue, refl, sym, ◌∙◌, ap, subst, arith, append_assoc, length-append, length-take, take-append-drop}
 use Rattle.std.specs.Int.{w32, w64}
 use Rattle.std.specs.Str.{bytes_eq}
 use Rattle.std.specs.List.{flat_map}
@@ -7,10 +7,8 @@ use Rattle.std.specs.List.Sorted.{IsPermutation}
 use Rattle.std.proofs.lemmas.List.{append-nil}
 use Rattle.std.proofs.lemmas.List.Concat.{length-flat_map}
 use Rattle.std.proofs.lemmas.List.Sorted.{sum_by-IsPermutation}
-use Rattle.std.proofs.lemmas.Option.{same_Some}
-use Rattle.std.proofs.lemmas.Result.{on_ok_weaker}
 use Rattle.std.proofs.lemmas.Slice.Eq.{bytes_eq-Decides}
-use Rattle.host_model.specs.Picture.{Image, ChangesFile, Becomes, file_at}
+use Rattle.host_model.specs.Picture.{ChangesFile, Becomes, file_at}
 use Rattle.host_model.specs.State.{HostState}
 use Rattle.host_model.specs.Calls.{IsSound}
 use Rattle.host_model.specs.Stores.{Stores}
@@ -22,7 +20,7 @@ use Rattle.bytes_form.proofs.FieldsLemmas.{IsPrefixFree-number, IsPrefixFree-cou
 use Rattle.journal_core.specs.Changes.{MayMake}
 use Rattle.metadata_schema.specs.declared.mutation.Mutation.{Mutation}
 use Rattle.log_files.specs.Mutations.{Bytes, spelled_mutation, IsLogged}
-use Rattle.log_files.specs.Sorted.{spelled_entry, spelled_sorted, AreInOrder, IsStableSortOf, IsSortedLog, HasSorted, IsNoSorted, IsSortOf, BecomesSortOf, WritesSorted}
+use Rattle.log_files.specs.Sorted.{spelled_entry, spelled_sorted, AreInOrder, IsStableSortOf, IsSortedLog, IsSortOf, BecomesSortOf, WritesSorted}
 use Rattle.log_files.specs.Parts.{Starts, StartsNone, StartsMany, StartsFewer, StartsHead, StartsNoHead, HasNoSorted, IsEntry, IsNoEntry}
 use Rattle.log_files.proofs.MutationLemmas.{one_mutation}
 use Rattle.log_files.proofs.ManyLemmas.{many_same}
@@ -91,21 +89,12 @@ some_head bytes front back count x first behind is one fits = record {
 length-head_parts : (count : ℕ) (rest : Bytes) → 8 ≤ length (magic ++ (number_field w64 count ++ rest))
 length-head_parts count rest = omega (arith, length-append magic (number_field w64 count ++ rest))
 
-pub short_head : (bytes : Bytes) → length bytes < 8 → StartsNoHead bytes
-short_head bytes short = record { none = λ count rest starts. omega (arith, short, ap (length {A = ℕ}) (starts.is ∙ head_parts count rest), length-head_parts count rest) }
-
 -- the magic is the first eight bytes
 its_magic : (bytes : Bytes) (count : ℕ) (rest : Bytes) → StartsHead bytes count rest → (take 8 bytes ≡ magic) × (drop 8 bytes ≡ number_field w64 count ++ rest)
 its_magic bytes count rest starts =
     let e = take-append-drop 8 bytes ∙ starts.is ∙ head_parts count rest in
     let long : length (take 8 bytes) ≡ length magic = omega (arith, ap (length {A = ℕ}) (starts.is ∙ head_parts count rest), length-head_parts count rest, length-take 8 bytes) in
     parted (take 8 bytes) magic (drop 8 bytes) (number_field w64 count ++ rest) long e
-
-pub other_magic : (bytes front : Bytes) → front ≡ take 8 bytes → (front ≡ magic → ⊥) → StartsNoHead bytes
-other_magic bytes front first other = record { none = λ count rest starts. other (first ∙ (its_magic bytes count rest starts).0) }
-
-pub no_count : (bytes back : Bytes) → back ≡ drop 8 bytes → TakesNone (number_field w64) back → StartsNoHead bytes
-no_count bytes back behind none = record { none = λ count rest starts. none count rest (behind ∙ (its_magic bytes count rest starts).1) }
 
 one_head : (bytes : Bytes) (a b : ℕ) (x y : Bytes) → StartsHead bytes a x → StartsHead bytes b y → (a ≡ b) × (x ≡ y)
 one_head bytes a b x y one two =
@@ -189,9 +178,3 @@ writes_sorted {name} ms {result = Ok u} {a} {b} sound stores = record {
     there f = let change : ChangesFile name (BecomesSortOf ms) a.files b.files = stores.done f in subst (IsSortOf ms) (sym (after_change change)) change.steps
 
 -- ---- a file that is read
-
-pub damaged : {name : Bytes} {image : Image} {bytes : Bytes} → file_at image name ≡ Some bytes → HasNoSorted bytes → IsNoSorted name image
-damaged is none = record { none = λ ms has. none.none ms (subst (λ l. IsSortedLog l ms) (same_Some _ _ (sym has.there ∙ is)) has.is_sorted) }
-
-pub missing : {name : Bytes} {image : Image} → file_at image name ≡ None → IsNoSorted name image
-missing is = record { none = λ ms has. let wrong = sym is ∙ has.there in cc }

@@ -1,5 +1,5 @@
 -- What stands in front of bytes is one list of updates, and one rest.
-use Rattle.std.proofs.Common.{◌≡◌, ℕ, ◌^◌, ◌<◌, Bool, true, false, List, ◌++◌, length, All, Option, Some, None, refl, sym, ◌∙◌, ap, arith, append_assoc}
+use Rattle.std.proofs.Common.{◌≡◌, ℕ, ◌^◌, ◌<◌, Bool, true, false, List, ◌++◌, length, Option, Some, None, refl, sym, ◌∙◌, ap, arith, append_assoc}
 use Rattle.std.specs.Int.{w8, w16, w32}
 use Rattle.std.specs.List.{flat_map}
 use Rattle.std.proofs.lemmas.Bool.{false≢true}
@@ -31,16 +31,6 @@ IsPrefixFree-value (Some v) (Some w) x y fits_a fits_b e =
     let values = same_long v w x y fits_a fits_b flags.1 in
     (ap Some values.0, values.1)
 
-pub some_value : (bytes value x y : Bytes) → Takes (flag_field true) x bytes → Takes (long_field value) y x → bytes ≡ spelled_value (Some value) ++ y
-some_value bytes value x y one two = one.is ∙ ap (λ (l : Bytes). flag_field true ++ l) two.is ∙ sym (value_parts value y)
-
-pub no_flag : (bytes : Bytes) → TakesNone flag_field bytes → StartsNone FitsValue spelled_value bytes
-no_flag bytes none = record { none = by }
-  where
-    by : (value : Option Bytes) (rest : Bytes) → Starts FitsValue spelled_value bytes value rest → ⊥
-    by None rest starts = none false rest starts.is
-    by (Some v) rest starts = none true (long_field v ++ rest) (starts.is ∙ value_parts v rest)
-
 pub no_long : (flag : Bool) (bytes x : Bytes) → flag ≡ true → Takes (flag_field flag) x bytes → TakesNone long_field x → StartsNone FitsValue spelled_value bytes
 no_long flag bytes x is takes none = record { none = by }
   where
@@ -63,9 +53,6 @@ IsPrefixFree-update a b x y fits_a fits_b e =
     let values = IsPrefixFree-value a.value b.value x y fits_a.value fits_b.value qualifiers.1 in
     (λ i. record { family = families.0 i; qualifier = qualifiers.0 i; value = values.0 i }, values.1)
 
-pub no_family : (bytes : Bytes) → TakesNone short_field bytes → StartsNone FitsUpdate spelled_update bytes
-no_family bytes none = record { none = λ u rest starts. none u.family (short_field u.qualifier ++ (spelled_value u.value ++ rest)) (starts.is ∙ update_parts u rest) }
-
 -- what an update that stands there has behind its family
 behind_family : (bytes family x : Bytes) → Takes (short_field family) x bytes → length family < 2 ^ 8 → (u : Update) (rest : Bytes) → Starts FitsUpdate spelled_update bytes u rest → x ≡ short_field u.qualifier ++ (spelled_value u.value ++ rest)
 behind_family bytes family x takes fits u rest starts =
@@ -79,15 +66,6 @@ no_value bytes family x qualifier y takes fits next short none = record {
   none = λ u rest starts.
       let same = same_short qualifier u.qualifier y (spelled_value u.value ++ rest) short starts.value_fits.qualifier (sym next.is ∙ behind_family bytes family x takes fits u rest starts) in
       none.none u.value rest (record { is = same.1; value_fits = starts.value_fits.value });
-}
-
-pub some_update : (bytes family x qualifier y : Bytes) (value : Option Bytes) (z : Bytes) → Takes (short_field family) x bytes → length family < 2 ^ 8 → Takes (short_field qualifier) y x → length qualifier < 2 ^ 8 → Starts FitsValue spelled_value y value z
-    → Starts FitsUpdate spelled_update bytes (record { family = family; qualifier = qualifier; value = value }) z
-some_update bytes family x qualifier y value z one fits two short three = record {
-  is =
-      one.is ∙ ap (λ (l : Bytes). short_field family ++ l) (two.is ∙ ap (λ (l : Bytes). short_field qualifier ++ l) three.is)
-      ∙ sym (update_parts (record { family = family; qualifier = qualifier; value = value }) z);
-  value_fits = record { family = fits; qualifier = short; value = three.value_fits };
 }
 
 -- ---- lists of updates

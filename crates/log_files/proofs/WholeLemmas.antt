@@ -1,5 +1,5 @@
 -- How a file is made anew, written and synced.
-use Rattle.std.proofs.Common.{◌≡◌, inl, inr, ℕ, ◌+◌, List, [], ◌++◌, length, drop, Some, Option, Result, Ok, Err, IsTrue, ◌∙◌, ap, arith}
+use Rattle.std.proofs.Common.{◌≡◌, inl, inr, ℕ, ◌+◌, [], ◌++◌, length, drop, Some, Option, Result, Ok, Err, IsTrue, ◌∙◌, ap, arith}
 use Rattle.std.proofs.lemmas.List.{append-nil}
 use Rattle.host_model.specs.Picture.{Becomes, MayBecome, OnBytes}
 use Rattle.host_model.specs.State.{HostState}

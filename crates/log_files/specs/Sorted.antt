@@ -1,5 +1,5 @@
 -- The grammar of sorted logs, and what the calls on them ensure.
-use Rattle.std.specs.Prelude.{◌≡◌, ℕ, ◌^◌, ◌<◌, codes, List, ◌++◌, length, drop, All, Option, Some, Result, OnOk, IsTrue}
+use Rattle.std.specs.Prelude.{◌≡◌, ◌^◌, ◌<◌, codes, List, ◌++◌, length, drop, All, Option, Some, Result, OnOk, IsTrue}
 use Rattle.std.specs.Int.{w64}
 use Rattle.std.specs.List.{flat_map}
 use Rattle.std.specs.List.Sorted.{IsPermutation, IsSorted, IsStable}

@@ -12,6 +12,8 @@ mod payload;
 mod records;
 mod sorted_bytes;
 mod sorted_log;
+#[cfg(test)]
+mod tests;
 mod updates;
 mod whole_file;
 

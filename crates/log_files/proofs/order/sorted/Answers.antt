@@ -1,4 +1,4 @@
-use Rattle.std.proofs.Common.{rules, sym, subst, map, is_lt, List}
+use Rattle.std.proofs.Common.{rules, subst, map, List}
 use Rattle.std.proofs.lemmas.Fn.{always_returns_same}
 use Rattle.metadata_schema.specs.declared.mutation.Mutation.{Mutation}
 use Rattle.log_files.specs.Sorted.{IsStableSortOf}

@@ -1,4 +1,4 @@
-use Rattle.std.proofs.Common.{rules, codes, ◌≡◌, ◌∙◌, ◌<◌, ◌^◌, ◌++◌, refl, sym, ap, length, map, arith}
+use Rattle.std.proofs.Common.{rules, codes, ◌∙◌, ◌++◌, sym, ap, length, map}
 use Rattle.std.proofs.lemmas.List.{length-map}
 use Rattle.log_files.specs.Mutations.{Bytes}
 use Rattle.log_files.proofs.SortLemmas.{shown}
