@@ -119,6 +119,9 @@ fn mutations_are_sorted(rt: HostRuntime) -> Result<(), Fail> {
     write_sorted(rt.alloc(), &mut host, &log, &all)?;
     let mut host = host.after_crash(b"", &[], None, Pick::Lost)?;
     let sorted = read_sorted(rt.alloc(), &mut host, &log)?;
-    assert_eq!(rt; rows_of(rt.alloc(), &sorted)?.as_slice(), b"ayaxbx".as_slice());
+    assert_eq!(rt;
+        rows_of(rt.alloc(), &sorted)?.as_slice(),
+        b"ayaxbx".as_slice()
+    );
     Ok(())
 }
