@@ -20,7 +20,7 @@ sorted_name log = codes "sorted-" ++ drop 4 log
 abbrev pub mutation_cmp : Mutation → Mutation → Ordering
 mutation_cmp a b = ordering_then (ordering_then (bytes_cmp a.table b.table) (bytes_cmp a.row b.row)) (nat_cmp a.time b.time)
 
--- none stands behind one of a greater table, row or time
+-- none is below the one before it
 abbrev pub AreInOrder : List Mutation → Type 0
 AreInOrder mutations = IsSorted mutation_cmp mutations
 

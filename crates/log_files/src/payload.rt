@@ -1,9 +1,9 @@
 // Mutations as bytes.
-ghost use Rattle.std.specs.Prelude.{◌≡◌, ◌≤◌, ◌<◌, ◌^◌, ℕ, List, length, IfOk, MatchOption};
+ghost use Rattle.std.specs.Prelude.{◌≡◌, ◌<◌, length, IfOk, MatchOption};
 ghost use Rattle.row_keys.specs.Forms.{IsTableId};
 ghost use Rattle.bytes_form.specs.Fields.{short_field, long_field, number_field};
 ghost use Rattle.std.specs.Int.{w64};
-ghost use Rattle.log_files.specs.Mutations.{spelled_mutation, IsSpelled, IsMutation, FitsRow, FitsTime};
+ghost use Rattle.log_files.specs.Mutations.{IsSpelled, IsMutation, FitsRow, FitsTime};
 ghost use Rattle.log_files.specs.Parts.{Starts, StartsNone, IsNoMutation};
 
 use crate::updates::{put_updates, take_updates};

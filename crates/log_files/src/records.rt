@@ -1,6 +1,5 @@
 // The records of a log.
-ghost use Rattle.std.specs.Prelude.{◌≡◌, ◌<◌, ◌^◌, IfOk, MatchOption, length};
-ghost use Rattle.log_files.specs.Mutations.{spelled_mutation, IsLogged};
+ghost use Rattle.std.specs.Prelude.{IfOk, MatchOption};
 ghost use Rattle.log_files.specs.Parts.{IsNoEntry, IsEntry, AreMutations, AreNoMutations};
 
 use crate::payload::read_mutation;

@@ -1,8 +1,8 @@
 // Sorted logs as bytes.
-ghost use Rattle.std.specs.Prelude.{◌≡◌, ◌++◌, length, map, All, IfOk, OnOk, MatchOption};
+ghost use Rattle.std.specs.Prelude.{◌≡◌, ◌++◌, map, All, IfOk, OnOk, MatchOption};
 ghost use Rattle.std.specs.List.{flat_map};
 ghost use Rattle.log_files.specs.Mutations.{IsLogged};
-ghost use Rattle.log_files.specs.Sorted.{spelled_entry, spelled_sorted, AreInOrder, IsSortedLog};
+ghost use Rattle.log_files.specs.Sorted.{spelled_entry, AreInOrder, IsSortedLog};
 ghost use Rattle.log_files.specs.Parts.{Starts, StartsNone, StartsMany, StartsFewer, StartsHead, StartsNoHead, HasNoSorted};
 
 use crate::order::follows;

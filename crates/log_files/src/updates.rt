@@ -1,8 +1,7 @@
 // Updates as bytes.
-ghost use Rattle.std.specs.Prelude.{◌≡◌, ◌↔◌, ◌++◌, ◌<◌, ◌^◌, [], ◌∷◌, length, All, IsTrue, IfOk, IfSome, OnOk, MatchOption};
+ghost use Rattle.std.specs.Prelude.{◌≡◌, ◌↔◌, ◌++◌, [], ◌∷◌, All, IsTrue, IfOk, OnOk, MatchOption};
 ghost use Rattle.std.specs.List.{flat_map};
 ghost use Rattle.std.specs.Option.{option_copied};
-ghost use Rattle.metadata_schema.specs.Bytes.{is_rising};
 ghost use Rattle.metadata_schema.specs.Columns.{update_cmp};
 ghost use Rattle.log_files.specs.Mutations.{spelled_value, spelled_update, spelled_updates, FitsValue, FitsUpdate, AreUpdates, AreRising};
 ghost use Rattle.log_files.specs.Parts.{Starts, StartsNone, StartsMany, StartsFewer};
