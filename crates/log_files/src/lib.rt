@@ -26,3 +26,4 @@ pub use logs::{Log, create_log, mutations};
 pub use names::{log_file, sorted_file};
 pub use payload::mutation_bytes;
 pub use sorted_log::{read_sorted, write_sorted};
+pub use updates::{put_updates, take_updates};

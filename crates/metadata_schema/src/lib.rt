@@ -40,3 +40,4 @@ pub use state::{TabletState, tablet_state};
 pub use tablet::{
     FileEntries, FileEntry, Holder, LoadedEntries, LoadedEntry, LogNames, TabletRecord,
 };
+pub use writing::columns_of;

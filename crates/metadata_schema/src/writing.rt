@@ -97,7 +97,7 @@ fn push_fixed(
 }
 
 /// The columns of a record, in order. Time and memory go with their number.
-pub(crate) fn columns_of(alloc: Global, tablet: &TabletRecord) -> Result<Vec<Update>, AllocError>
+pub fn columns_of(alloc: Global, tablet: &TabletRecord) -> Result<Vec<Update>, AllocError>
     ensures { IfOk result (λ columns. columns.items ≡ columns_of tablet.now) }
 {
     let mut columns = Vec::new(alloc);
