@@ -1,0 +1,3 @@
+pub mod GrantsLemmas
+pub mod TextLemmas
+pub mod QueueLemmas
