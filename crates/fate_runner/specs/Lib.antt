@@ -1,0 +1,5 @@
+pub mod Book
+pub mod Works
+pub mod Turn
+pub mod Agree
+pub mod Passing
