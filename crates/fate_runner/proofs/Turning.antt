@@ -114,16 +114,6 @@ module _ (m : Meaning) (lawful : IsLawful m) (t : ℕ) where
         kept_b : IsTrue a.is_faithful → IsKept m (picture_now a) → IsKept m (picture_now b)
         kept_b f kept = subst (λ p. IsKept m p) (sym (now_same looks f)) kept
 
-    -- the turn stops while it looks
-    pub looks_stop : {a b : HostState} (result : Result Turned Stop) → IsErr result → IsSound a → Looks a b → Takes m t rule result a b
-    looks_stop {a = a} result is_err sound looks = record {
-      keeps = looks.quiet.keeps;
-      turn = λ f kept. if_ok _ result is_err;
-      tried = λ f kept. looked looks f kept;
-      inside = λ h at_rest kept. only_looks (InTurn m t rule (picture_now a)) sound looks h at_rest (turn_start kept);
-      rests = λ h at_rest kept. on_ok _ result is_err;
-    }
-
     -- the transaction waits
     pub waits : {a b : HostState} (turned : Turned) → IsSound a → Looks a b → (IsTrue a.is_faithful → IsKept m (picture_now a) → rule turned (m.book (picture_now a) t)) → Takes m t rule (Ok turned) a b
     waits {a = a} {b = b} turned sound looks is = record {
