@@ -1,0 +1,6 @@
+mod StepLemmas
+mod ActLemmas
+mod MultiLemmas
+mod LogLemmas
+mod RemoveLemmas
+mod OpeningLemmas

@@ -1,0 +1,5 @@
+use Rattle.ground_store.proofs.ActLemmas.{rests_said}
+use Rattle.ground_store.proofs.ground.Ground.say.Goals as goal
+
+pub invariant_of-self : goal.invariant_of-self
+invariant_of-self g c = λ alive. rests_said (g.met.H.Host.sound c.self.inside.host) (c.self.invariant alive) c.in-Ok.ensures

@@ -1,0 +1,6 @@
+pub mod Value
+pub mod Acts
+pub mod Steps
+pub mod Causes
+pub mod Codes
+pub mod Opening

@@ -1,0 +1,9 @@
+pub mod NameLemmas
+pub mod AgreeLemmas
+pub mod ChangeLemmas
+pub mod UseLemmas
+pub mod RowLemmas
+pub mod NewNodes
+pub mod NewLevel
+pub mod NewStoreLemmas
+pub mod ReadingLemmas

@@ -1,0 +1,5 @@
+pub mod Ground
+pub mod Content
+pub mod Levels
+pub mod InUse
+pub mod Readable
