@@ -65,7 +65,7 @@ dir_bytes dir (inr (inl is)) = ap (λ l. list_all part_byte l) is
 dir_bytes dir (inr (inr (inl is))) = ap (λ l. list_all part_byte l) is
 dir_bytes dir (inr (inr (inr drawn))) = ap (λ l. list_all part_byte l) drawn.1 ∙ all_joined part_byte (codes "t-") drawn.0 refl (all_weaker is_base36 part_byte base36 drawn.0 drawn.2.form.each)
 
-dir_short : (dir : List ℕ) → IsDirectory dir → length dir ≤ 15
+pub dir_short : (dir : List ℕ) → IsDirectory dir → length dir ≤ 15
 dir_short dir (inl is) = let e = ap (length {A = ℕ}) is in omega (arith, e)
 dir_short dir (inr (inl is)) = let e = ap (length {A = ℕ}) is in omega (arith, e)
 dir_short dir (inr (inr (inl is))) = let e = ap (length {A = ℕ}) is in omega (arith, e)

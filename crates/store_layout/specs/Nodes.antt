@@ -40,13 +40,17 @@ next_session_path = codes "/next/session"
 abbrev pub next_lock_path : List ℕ
 next_lock_path = codes "/next/lock"
 
+-- the value of a counter that stands at this number
+pub record IsCounter (value : List ℕ) (number : ℕ) : Type 0 where
+  pub is : value ≡ decimal number
+  pub least : 0 < number
+  pub most : number < 2 ^ 63
+
 -- a counter stands at this number, which is drawn next
 pub record IsNext (nodes : Nodes) (path : List ℕ) (number : ℕ) : Type 0 where
   pub node : Node
   pub there : map.get nodes path ≡ Some node
-  pub value : node.value ≡ decimal number
-  pub least : 0 < number
-  pub most : number < 2 ^ 63
+  pub value : IsCounter node.value number
 
 -- no number is drawn next: the counter isn't there, or says none
 pub record IsNoCounter (nodes : Nodes) (path : List ℕ) : Type 0 where

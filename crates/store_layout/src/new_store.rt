@@ -1,11 +1,10 @@
-// What a new store has: the first file of the root tablet, and the first nodes.
-ghost use Rattle.std.specs.Prelude.{◌≡◌, ◌++◌, ◌≤◌, IfOk, IfSome, OnOk, IsOk, Some, codes, length, map};
-ghost use Rattle.std.specs.FinMap as map_of;
+// The tablets of a new store, and the first file of the root tablet.
+ghost use Rattle.std.specs.Prelude.{◌≡◌, ◌++◌, ◌≤◌, IfOk, IfSome, OnOk, Some, codes, length, map};
 ghost use Rattle.row_keys.specs.Forms.{IsPath, IsTableId};
 ghost use Rattle.data_files.specs.Cells.{AreFileCells};
+ghost use Rattle.metadata_schema.specs.Paths.{IsFilePath};
 ghost use Rattle.metadata_schema.specs.Records.{new_tablet};
-ghost use Rattle.node_store.specs.Nodes.{multi_applied};
-ghost use Rattle.store_layout.specs.NewStore.{cell_of, first_cells, first_ops, last_metadata, record_cells, root_file, table_info};
+ghost use Rattle.store_layout.specs.NewStore.{cell_of, first_cells, last_metadata, record_cells, root_file, root_file_path, table_info};
 
 use crate::names::file_of;
 use cell_merge::Cell;
@@ -19,12 +18,12 @@ const METADATA_TABLE: &[u8] = b"!0";
 /// The end row of the first metadata tablet.
 const METADATA_SPLIT: &[u8] = b"~";
 
-const ROOT_FILE: &[u8] = b"+r/root_tablet/A0000001.rf";
+pub(crate) const ROOT_FILE: &[u8] = b"+r/root_tablet/A0000001.rf";
 
 /// The time of the first cells, which is the root tablet's first bar.
-const FIRST_TIME: u64 = 1;
+pub(crate) const FIRST_TIME: u64 = 1;
 
-fn path_of(alloc: Global, bytes: &[u8]) -> Result<Path, AllocError>
+pub(crate) fn path_of(alloc: Global, bytes: &[u8]) -> Result<Path, AllocError>
     requires { IsPath bytes.now }
     ensures { IfOk result (λ path. path ≡ bytes.now) }
 {
@@ -32,7 +31,7 @@ fn path_of(alloc: Global, bytes: &[u8]) -> Result<Path, AllocError>
     Ok(path.unwrap())
 }
 
-fn table_of(alloc: Global, id: &[u8]) -> Result<TableId, AllocError>
+pub(crate) fn table_of(alloc: Global, id: &[u8]) -> Result<TableId, AllocError>
     requires { IsTableId id.now }
     ensures { IfOk result (λ table. table ≡ id.now) }
 {
@@ -48,7 +47,7 @@ fn split_row(alloc: Global) -> Result<Row, AllocError>
 }
 
 /// A tablet with nothing in it.
-fn new_tablet(
+pub(crate) fn new_tablet(
     alloc: Global,
     table: TableId,
     end: Option<Row>,
@@ -148,16 +147,19 @@ pub fn first_cells(alloc: Global) -> Result<Vec<Cell>, AllocError>
     Ok(cells)
 }
 
-/// The name of the first file of the root tablet.
+/// The path of the first file of the root tablet. Takes memory for it.
 #[tactic(auto, using(crate::proofs::FirstLemmas::root_path_form))]
+pub fn root_file_path(alloc: Global) -> Result<Path, AllocError>
+    ensures path { IfOk result (λ path. path ≡ root_file_path) }
+    ensures form { IfOk result IsFilePath }
+{
+    path_of(alloc, ROOT_FILE)
+}
+
+/// The name of the first file of the root tablet. Takes memory for it.
 pub fn root_file_name(alloc: Global) -> Result<Name, AllocError>
     ensures { IfOk result (λ name. name ≡ root_file) }
 {
-    let path = path_of(alloc, ROOT_FILE)?;
+    let path = root_file_path(alloc)?;
     file_of(alloc, &path)
 }
-
-/// The changes that make a store apply where there are no nodes.
-pub fn a_new_store_begins()
-    ensures { IsOk (multi_applied first_ops map_of.empty) }
-{}
