@@ -4,3 +4,6 @@ mod MultiLemmas
 mod LogLemmas
 mod RemoveLemmas
 mod OpeningLemmas
+mod DiskLemmas
+mod MakingLemmas
+mod DrawLemmas

@@ -4,3 +4,4 @@ pub mod Steps
 pub mod Causes
 pub mod Codes
 pub mod Opening
+pub mod Drawing

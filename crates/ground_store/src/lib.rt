@@ -5,10 +5,12 @@
 #![tactic(auto)]
 
 mod again;
+mod drawing;
 mod files;
 mod ground;
 mod log_map;
 mod logs;
+mod making;
 mod nodes;
 mod opening;
 mod removing;
@@ -16,4 +18,6 @@ mod speaking;
 mod stop;
 
 pub use ground::Ground;
+pub use making::init_nodes;
+pub use opening::open_nodes;
 pub use stop::GroundStop;

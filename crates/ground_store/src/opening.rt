@@ -14,8 +14,13 @@ use node_store::{NodeStore, is_born};
 use std::alloc::Global;
 use store_layout::nodes_name;
 
-/// The nodes of the store that is there.
-fn open_nodes<H: Host>(alloc: Global, host: &mut H) -> Result<NodeStore, GroundStop>
+/// Opens the nodes of the store that is there, as a crash may have left it. It writes nothing.
+///
+/// `NotInit` comes exactly where the file of the nodes was never begun, and `NotBlank` never. `Damaged` names that file,
+/// where it was begun and has no nodes. Each other stop is a fault of the disk or the host's memory, which is counted, or
+/// want of memory. Four calls of the host at the most; time and memory go with the size of that file, and the time with
+/// the logarithm of the number of nodes. This project's own.
+pub fn open_nodes<H: Host>(alloc: Global, host: &mut H) -> Result<NodeStore, GroundStop>
     ensures looks { Looks (H.state host.old) (H.state host.new) }
     ensures name { IfOk result (λ nodes. nodes.name ≡ nodes_name) }
     ensures stored { IsTrue (H.state host.old).is_faithful → IfOk result (λ nodes. IsStored nodes (H.state host.old).files) }
