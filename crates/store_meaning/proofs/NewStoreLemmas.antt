@@ -32,7 +32,7 @@ use Rattle.store_meaning.proofs.NewLevel.{new_level, no_level, one_of, FormsNew,
 
 -- ---- the root tablet
 
-root_path_form : IsFilePath root_file_path
+abbrev pub root_path_form : IsFilePath root_file_path
 root_path_form = record {
   id = codes "+r";
   dir = codes "root_tablet";
@@ -54,7 +54,7 @@ root_path_form = record {
   is = refl;
 }
 
-abbrev root_entry : FileEntry
+abbrev pub root_entry : FileEntry
 root_entry = record { path = root_file_path; size = length (spelled_file first_cells); entries = length first_cells; time = None }
 
 root_form : length (spelled_file first_cells) < 2 ^ 64 → IsWellFormed first_root
@@ -112,7 +112,7 @@ new_reading_is forms nodes has small = record {
 
 -- ---- what is in use
 
-root_file_only : (tablet : TabletRecord) → IsRecord new_reading tablet → (file : FileEntry) → Contains tablet.files file → root_file_path ≡ file.path
+pub root_file_only : (tablet : TabletRecord) → IsRecord new_reading tablet → (file : FileEntry) → Contains tablet.files file → root_file_path ≡ file.path
 root_file_only tablet (inl is) file there = elim (Contains-cons_cases root_entry file [] (subst (λ t. Contains t.files file) (sym is) there)) [
   | inl one ↦ ap (λ f. f.path) one
   | inr none ↦ absurd (Contains-nil file none)
@@ -135,13 +135,13 @@ no_named_log log named = by named.of
     by (inr (inr of)) = none-some named.tablet of.there
 
 module _ (nodes : Nodes) (has : HasFirstNodes (root_value first_root) nodes) where
-  no_list : (log : List ℕ) → IsListedLog nodes log → ⊥
+  pub no_list : (log : List ℕ) → IsListedLog nodes log → ⊥
   no_list log listed = none-some listed.node (sym (has.no_logs listed.session) ∙ listed.there)
 
   no_sorted : (log : List ℕ) → IsListedSorted nodes log → ⊥
   no_sorted log sorted = none-some sorted.node (sym (has.no_sorted log) ∙ sorted.there)
 
-  no_log : (log : List ℕ) → IsLogInUse nodes new_reading log → ⊥
+  pub no_log : (log : List ℕ) → IsLogInUse nodes new_reading log → ⊥
   no_log log (inl named) = no_named_log log named
   no_log log (inr (inl listed)) = no_list log listed
   no_log log (inr (inr sorted)) = no_sorted log sorted
@@ -165,10 +165,10 @@ module _ (nodes : Nodes) (has : HasFirstNodes (root_value first_root) nodes) whe
 
 -- ---- the cells of its tablets
 
-consistent : (cells : List Cell) → HaveRisingKeys cells → AreConsistent cells
+pub consistent : (cells : List Cell) → HaveRisingKeys cells → AreConsistent cells
 consistent cells rising = record { one = λ a b p q key time. same_Some a b (sym (latest-rising cells a rising p) ∙ ap (latest cells) key ∙ latest-rising cells b rising q) }
 
-none_consistent : AreConsistent []
+pub none_consistent : AreConsistent []
 none_consistent = record { one = λ a b p q key time. absurd (Contains-nil a p) }
 
 pub new_root_consistent : (nodes : Nodes) → HaveRisingKeys first_cells → HaveConsistentTablets (new_ground nodes) (root_rows new_reading) (first_root ∷ [])

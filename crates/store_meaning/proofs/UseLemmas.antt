@@ -13,7 +13,7 @@ use Rattle.store_meaning.specs.Levels.{Reading, IsReadingOf, IsRootRecord, root_
 use Rattle.store_meaning.specs.InUse.{IsRecord, IsLogInUse, IsListedLog, IsListedSorted, AgreeInUse}
 use Rattle.store_meaning.specs.Readable.{IsTold, HasAllInUse, ListsLogs, HaveConsistentTablets, IsReadAs}
 
-all_told_same : {X Y : Type 0} (f g : X → Option (List Y)) (xs : List X) → ((x : X) → Contains xs x → g x ≡ f x) → all_told g xs ≡ all_told f xs
+pub all_told_same : {X Y : Type 0} (f g : X → Option (List Y)) (xs : List X) → ((x : X) → Contains xs x → g x ≡ f x) → all_told g xs ≡ all_told f xs
 all_told_same f g [] same = refl
 all_told_same f g (x ∷ xs) same =
     let here = same x (Contains-here x xs) in
@@ -30,7 +30,7 @@ module _ (reading : Reading) (old new : Ground) (agree : AgreeInUse reading old 
       all_told_same (log_cells old tablet) (log_cells new tablet) (logs_of tablet) (λ log there. ap (option_map (λ mutations. flat_map cells_of_mutation (filter (counts_for tablet) mutations))) (agree.mutations log (inl (record { tablet = tablet; of = is; there = there })))) in
       ap (λ f. option_map (clipped low tablet.end) (both_told f (all_told (log_cells new tablet) (logs_of tablet)))) files ∙ ap (λ l. option_map (clipped low tablet.end) (both_told (all_told (file_cells old) tablet.files) l)) logs
 
-  contents_same : (rows : Rows) (chain : List TabletRecord) → ((tablet : TabletRecord) → Contains chain tablet → IsRecord reading tablet) → contents_of new rows chain ≡ contents_of old rows chain
+  pub contents_same : (rows : Rows) (chain : List TabletRecord) → ((tablet : TabletRecord) → Contains chain tablet → IsRecord reading tablet) → contents_of new rows chain ≡ contents_of old rows chain
   contents_same rows chain are = all_told_same (tablet_content old rows) (tablet_content new rows) chain (λ tablet there. content_same (effective_prev rows tablet) tablet (are tablet there))
 
   root_records : (tablet : TabletRecord) → Contains (reading.root ∷ []) tablet → IsRecord reading tablet
@@ -69,7 +69,7 @@ module _ (reading : Reading) (old new : Ground) (agree : AgreeInUse reading old 
     sorted = λ log used. subst (λ nodes. IsListedLog nodes log) (sym agree.nodes) (lists.sorted log (subst (λ nodes. IsListedSorted nodes log) agree.nodes used));
   }
 
-  tablets_same : (rows : Rows) (chain : List TabletRecord) → ((tablet : TabletRecord) → Contains chain tablet → IsRecord reading tablet) → HaveConsistentTablets old rows chain → HaveConsistentTablets new rows chain
+  pub tablets_same : (rows : Rows) (chain : List TabletRecord) → ((tablet : TabletRecord) → Contains chain tablet → IsRecord reading tablet) → HaveConsistentTablets old rows chain → HaveConsistentTablets new rows chain
   tablets_same rows chain are were tablet cells there is = were tablet cells there (sym (content_same (effective_prev rows tablet) tablet (are tablet there)) ∙ is)
 
   pub read_same : IsReadAs reading old → IsReadAs reading new

@@ -3,3 +3,16 @@ pub mod Content
 pub mod Levels
 pub mod InUse
 pub mod Readable
+pub mod Writes
+pub mod RowWrites
+pub mod ChainWrites
+pub mod Naming
+pub mod Flushes
+pub mod Holders
+pub mod FileChanges
+pub mod FirstWrites
+pub mod Marked
+pub mod Stands
+pub mod Kept
+pub mod Example
+pub mod NodesAside

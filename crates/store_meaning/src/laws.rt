@@ -17,6 +17,7 @@ ghost use Rattle.store_meaning.specs.Ground.{Ground, IsGroundOf, Agree, IsPartOf
 ghost use Rattle.store_meaning.specs.Levels.{Reading, IsReadingOf};
 ghost use Rattle.store_meaning.specs.InUse.{AgreeInUse};
 ghost use Rattle.store_meaning.specs.Readable.{IsReadAs, IsReadable};
+ghost use Rattle.store_meaning.specs.NodesAside.{AgreeAside};
 
 use data_files::a_file_has_one_list_of_cells;
 use level_rows::a_table_has_one_chain;
@@ -65,6 +66,16 @@ pub fn each_action_changes_one_look_up()
 pub fn unused_files_count_for_nothing()
     ensures { (reading : Reading) (old new : Ground) → AgreeInUse reading old new → IsReadAs reading old ↔ IsReadAs reading new }
 {}
+
+/// Nodes other than `/root` and those of logs count for nothing: of two grounds that agree on these and on all files, both
+/// can be read so, or neither. An image in which only such nodes change can still be read.
+pub fn nodes_aside_count_for_nothing()
+    ensures read { (reading : Reading) (known : Ground) (nodes : Nodes) → AgreeAside known.nodes nodes → IsReadAs reading known ↔ IsReadAs reading (with_nodes known nodes) }
+    ensures images { (old new : Image) (before after : Nodes) → HasNodes nodes_name old before → HasNodes nodes_name new after → OthersStay nodes_name old new
+        → AgreeAside before after → IsReadable old → IsReadable new }
+{
+    nodes_are_one();
+}
 
 /// All levels follow from the root record: a ground has one reading of each.
 pub fn a_root_record_has_one_reading()
