@@ -1,13 +1,10 @@
 -- Where nothing stands against it, a run serves its whole script.
-use Rattle.std.proofs.Common.{◌≡◌, inl, inr, ⊎_elim, ℕ, ◌<◌, ◌≤◌, Bool, true, false, List, length, Option, Some, None, Result, Ok, Err, IfErr, refl, sym, ◌∙◌, ap, subst, arith}
+use Rattle.std.proofs.Common.{◌≡◌, inl, inr, ⊎_elim, ℕ, ◌<◌, ◌≤◌, Bool, true, false, List, length, Result, Ok, Err, IfErr, refl, sym, ap, subst, arith}
 use Rattle.std.specs.List.{AllByRecursion}
 use Rattle.std.specs.Option.{option_to_list}
-use Rattle.std.specs.FinMap as map
-use Rattle.std.specs.FinMap.{get-empty}
 use Rattle.std.proofs.lemmas.Option.{slice_get_within, get_or_from_slice_get}
 use Rattle.std.proofs.lemmas.List.{take_all}
 use Rattle.std.proofs.lemmas.List.Elements.{All-from_recursion}
-use Rattle.host_model.specs.Picture.{Image}
 use Rattle.host_model.specs.State.{HostState}
 use Rattle.host_model.specs.Calls.{Counted}
 use Rattle.host_model.specs.declared.fault.HostFault.{HostFault}
@@ -15,37 +12,22 @@ use Rattle.host_model.specs.declared.fault.Stop.{Stop}
 use Rattle.host_model.specs.declared.fault.Stop.TheVariants.{Host, Damaged, Full, NoMemory}
 use Rattle.script_source.specs.Script.{ScriptLine, lines_of}
 use Rattle.script_source.specs.Hearing.{max_line}
-use Rattle.node_store.specs.PathsTo.{path_cmp}
-use Rattle.node_store.specs.Image.{IsUnborn}
-use Rattle.node_store.proofs.ImageLemmas.{unborn_empty}
-use Rattle.node_store.specs.declared.changes.Node.{Node}
-use Rattle.table_store.specs.Layout.{nodes_name, instance_path}
-use Rattle.table_store.specs.Kept.{IsKept}
 use Rattle.table_store.specs.Room.{Station}
-use Rattle.table_store.specs.Tables.{Tables}
 use Rattle.plain_model.specs.declared.operation.Entry.{Entry}
-use Rattle.table_store.specs.declared.stop.StoreStop.{StoreStop}
-use Rattle.table_store.specs.declared.stop.StoreStop.TheVariants.{NotInit, NotBlank, Stopped}
+use Rattle.ground_store.specs.declared.stop.GroundStop.{GroundStop}
+use Rattle.ground_store.specs.declared.stop.GroundStop.TheVariants.{NotInit, NotBlank, Stop as Stopped}
 use Rattle.shell.specs.Script.{texts_of, AreWithin, IsOver}
 use Rattle.shell.specs.Walk.{IsFullAt}
 use Rattle.shell.specs.Ending.{status_for, without_store, stopped_with}
 use Rattle.shell.specs.LineServed.{StopCounts}
 use Rattle.shell.specs.ScriptServed.{HasEnded}
-use Rattle.shell.specs.Running.{StoreStops, RunsStore}
+use Rattle.shell.specs.Opening.{StoreStops}
+use Rattle.shell.specs.Running.{RunsStore}
 use Rattle.shell.specs.Completeness.{IsUnhindered, IsDoneOrShort}
 use Rattle.shell.specs.declared.outcomes.Outcome.{Outcome}
+use Rattle.shell.proofs.StandsLemmas.{says_born}
 use Rattle.shell.specs.declared.ending.Ending.{Ending}
 use Rattle.shell.specs.declared.ending.Ending.TheVariants.{ScriptEnd, NoLine}
-
--- ---- a kept image is born
-
-not_there : (node : Node) → ◌≡◌ {A = Option Node} None (Some node) → ⊥
-not_there node is = cc
-
-kept_born : (image : Image) (tables : Tables) → IsKept image tables → IsUnborn nodes_name image → ⊥
-kept_born image tables kept unborn =
-    let none = unborn_empty nodes_name image kept.nodes kept.has unborn in
-    not_there kept.reading.instance.node (sym (ap (λ n. map.get n instance_path) none ∙ get-empty path_cmp instance_path) ∙ kept.reading.instance.is)
 
 -- ---- why it stops
 
@@ -92,15 +74,15 @@ ending_short (Err stop) first now start lines past maybe no_fault room within en
 
 -- ---- why there is no store
 
-no_store_short : (init : Bool) (stop : StoreStop) (first now : HostState) → IsUnhindered init first now → StoreStops init stop first now → IsDoneOrShort (without_store stop).status
-no_store_short false NotInit first now free stops = absurd (kept_born first.files free.tables free.begins (stops free.faithful))
+no_store_short : (init : Bool) (stop : GroundStop) (first now : HostState) → IsUnhindered init first now → StoreStops init stop first now → IsDoneOrShort (without_store stop).status
+no_store_short false NotInit first now free stops = absurd (says_born first.files free.tables free.begins.says (stops free.faithful))
 no_store_short false NotBlank first now free stops = absurd stops
 no_store_short false (Stopped (Host fault)) first now free stops = absurd (free.no_fault fault stops.1.counted)
-no_store_short false (Stopped (Damaged name)) first now free stops = absurd ((stops.1 free.faithful).1.none free.tables free.begins)
+no_store_short false (Stopped (Damaged name)) first now free stops = absurd ((stops.1 free.faithful).1.none free.tables free.begins.says)
 no_store_short false (Stopped Full) first now free stops = absurd stops
 no_store_short false (Stopped NoMemory) first now free stops = inr refl
 no_store_short true NotInit first now free stops = absurd stops
-no_store_short true NotBlank first now free stops = absurd (stops free.faithful free.begins.0)
+no_store_short true NotBlank first now free stops = absurd (stops.1 free.faithful free.begins.0)
 no_store_short true (Stopped (Host fault)) first now free stops = absurd (free.no_fault fault stops.1.counted)
 no_store_short true (Stopped (Damaged name)) first now free stops = absurd stops
 no_store_short true (Stopped Full) first now free stops = absurd stops

@@ -1,5 +1,5 @@
 -- What a `createtable` does, from what the store of tables says of it.
-use Rattle.std.proofs.Common.{◌≡◌, ◌⊎◌, inl, inr, ⊎_elim, ℕ, Bool, false, if◌then◌else◌, List, [], ◌∷◌, ◌++◌, Some, Result, Ok, Err, IsTrue, MatchBool, refl, sym, ◌∙◌, ap, subst}
+use Rattle.std.proofs.Common.{◌≡◌, ◌⊎◌, inl, inr, ⊎_elim, ℕ, Bool, true, false, if◌then◌else◌, List, [], ◌∷◌, ◌++◌, Some, None, Result, Ok, Err, IsTrue, MatchBool, refl, sym, ◌∙◌, ap, subst}
 use Rattle.host_model.specs.Picture.{Image}
 use Rattle.host_model.specs.State.{HostState}
 use Rattle.host_model.specs.Calls.{IsSound, IsOfFiles}
@@ -14,15 +14,16 @@ use Rattle.node_store.specs.Image.{IsNodeFile, IsStored}
 use Rattle.script_words.specs.declared.line.Line.TheVariants.{CreateTable}
 use Rattle.script_words.specs.declared.reply.Answer.TheVariants.{Ok as Done, Refused}
 use Rattle.script_words.specs.declared.reply.Refusal.TheVariants.{Exists}
-use Rattle.table_store.specs.Layout.{nodes_name}
+use Rattle.store_layout.specs.Names.{nodes_name}
 use Rattle.table_store.specs.Tables.{created, is_taken}
-use Rattle.table_store.specs.Kept.{IsKept}
+use Rattle.table_store.specs.Kept.{SaysTables}
 use Rattle.table_store.specs.Room.{AddsTable}
 use Rattle.table_store.specs.StoreValue.{StoreValue, MayCreate, Creates, HasCreated, CreateStops, IsUnasked, entry_of, station_of}
 use Rattle.plain_model.specs.declared.operation.Entry.{Entry}
 use Rattle.shell.specs.Serving.{answer_to, tables_after, entries_of}
-use Rattle.shell.proofs.LineLemmas.{only_start, unchanged}
+use Rattle.shell.proofs.LineLemmas.{only_start, unchanged, does_nothing}
 use Rattle.shell.specs.Walk.{Steps}
+use Rattle.shell.proofs.ReadableLemmas.{stays_altered}
 use Rattle.shell.specs.LineServed.{IsSure, IsBefore, DidNothing, IsInDoubt, IsEarlyStop, IsCommitStop, StopCounts, DoesLine}
 
 module _ (number : ℕ) (name : List ℕ) (old new : StoreValue) (before now : HostState) (sound : IsSound before) (sure : IsSure old before) (free : is_taken name old.tables ≡ false) where
@@ -35,37 +36,38 @@ module _ (number : ℕ) (name : List ℕ) (old new : StoreValue) (before now : H
   answer_is : answer_to (CreateTable name) old.tables ≡ Some Done
   answer_is = ap (λ (b : Bool). Some (if b then Refused (Exists name) else Done)) free
 
-  after_kept : {image : Image} → IsKept image (created name old.tables) → IsKept image (tables_after (CreateTable name) old.tables)
-  after_kept {image} kept = subst (λ t. IsKept image t) (sym after_is) kept
+  after_says : {image : Image} → SaysTables image (created name old.tables) → SaysTables image (tables_after (CreateTable name) old.tables)
+  after_says {image} says = subst (λ t. SaysTables image t) (sym after_is) says
 
-  may_kept : {image : Image} → IsKept image old.tables ⊎ IsKept image (created name old.tables) → IsKept image old.tables ⊎ IsKept image (tables_after (CreateTable name) old.tables)
-  may_kept either = ⊎_elim (λ kept. inl kept) (λ kept. inr (after_kept kept)) either
+  may_say : {image : Image} → SaysTables image old.tables ⊎ SaysTables image (created name old.tables) → SaysTables image old.tables ⊎ SaysTables image (tables_after (CreateTable name) old.tables)
+  may_say either = ⊎_elim (λ kept. inl kept) (λ kept. inr (after_says kept)) either
 
   steps_of : AddsTable name (station_of old) (station_of new) → Steps (CreateTable name) (station_of old) (station_of new)
   steps_of adds = subst (λ (b : Bool). MatchBool b (station_of new ≡ station_of old) (AddsTable name (station_of old) (station_of new))) (sym free) adds
 
   module _ {result : Result Bool Stop} (alters : Alters (IsNodeFile nodes_name) (MayCreate name old.tables) (Creates name old.tables) result before now) where
-    shows : IsTrue before.is_honest → AllSettled before → LeavesOnly (Shows (λ image. IsKept image old.tables ⊎ IsKept image (tables_after (CreateTable name) old.tables)) before.said) before now
+    shows : IsTrue before.is_honest → AllSettled before → LeavesOnly (Shows (λ image. SaysTables image old.tables ⊎ SaysTables image (tables_after (CreateTable name) old.tables)) before.said) before now
     shows h rests =
-        let kept : IsKept before.files old.tables = sure.kept (sound.faithful h) in
-        alters_leave (Shows (λ image. IsKept image old.tables ⊎ IsKept image (tables_after (CreateTable name) old.tables)) before.said) sound h rests alters
-        (record { image = inl kept; said_is = refl }) (λ p step said. record { image = may_kept (step.each kept); said_is = said })
+        let kept : SaysTables before.files old.tables = sure.says (sound.faithful h) in
+        alters_leave (Shows (λ image. SaysTables image old.tables ⊎ SaysTables image (tables_after (CreateTable name) old.tables)) before.said) sound h rests alters
+        (record { image = inl kept; said_is = refl }) (λ p step said. record { image = may_say (step.each kept); said_is = said })
 
   -- the table is made
   pub made_line : {made : Bool} → Alters (IsNodeFile nodes_name) (MayCreate name old.tables) (Creates name old.tables) {T = Bool} {E = Stop} (Ok made) before now → HasCreated number name old new
-      → (IsTrue now.is_faithful → IsStored new.nodes now.files) → (IsTrue now.is_faithful → IsKept now.files new.tables)
+      → (IsTrue now.is_faithful → IsStored new.nodes now.files) → (IsTrue now.is_faithful → SaysTables now.files new.tables)
       → DoesLine number (CreateTable name) (Ok (Some Done)) old new before now
-  made_line alters has stored kept = record {
+  made_line alters has stored says = record {
     quiet = alters.quiet;
     answer = sym answer_is;
     running = has.running;
-    sure = record { stored = stored; kept = kept };
+    sure = record { stored = stored; says = says };
     doubt = has.doubt;
     steps = steps_of has.adds;
     history = has.history ∙ ap (λ (l : List Entry). old.history ++ l) (sym entries_are);
     halts = λ f. tt;
     stops = tt;
     unasked = tt;
+    readable = stays_altered sound alters (λ d p step. step.readable);
     leaves = shows alters;
     rests = λ h rests. alters.rests h rests;
   }
@@ -90,6 +92,7 @@ module _ (number : ℕ) (name : List ℕ) (old new : StoreValue) (before now : H
     halts = λ f. halts_at f stop (alters.tried f) why untouched;
     stops = stops_so stop why;
     unasked = λ own. unchanged (untouched own);
+    readable = stays_altered sound alters (λ d p step. step.readable);
     leaves = shows alters;
     rests = λ h rests. tt;
   }
@@ -101,8 +104,8 @@ module _ (number : ℕ) (name : List ℕ) (old new : StoreValue) (before now : H
         doubt = doubt;
         same = unchanged same;
         said = ap (λ (s : HostState). s.said) same;
-        kept = subst (λ (s : HostState). IsKept s.files old.tables) (sym same) (sure.kept f);
-        leaves = λ h rests. subst (λ (s : HostState). LeavesOnly (IsBefore old.tables before.said) before s) (sym same) (only_start sound h rests (record { kept = sure.kept f; said_is = refl }));
+        says = subst (λ (s : HostState). SaysTables s.files old.tables) (sym same) (sure.says f);
+        leaves = λ h rests. subst (λ (s : HostState). LeavesOnly (IsBefore old.tables before.said) before s) (sym same) (only_start sound h rests (record { says = sure.says f; said_is = refl }));
       }
 
       committing : (fault : HostFault) → IsOfFiles fault → IsCommitStop (Host fault)
@@ -113,7 +116,17 @@ module _ (number : ℕ) (name : List ℕ) (old new : StoreValue) (before now : H
 
       halts_at : IsTrue before.is_faithful → (s : Stop) → MayCreate name old.tables before.files now.files → CreateStops s number name old new before now → (IsUnasked s → now ≡ before)
           → DidNothing s (CreateTable name) old new before now ⊎ IsInDoubt s number (CreateTable name) old new before now
-      halts_at f (Host fault) step cause same = inr (record { why = committing fault cause.0; history = history; doubt = cause.2 ∙ sym entries_are; said = alters.quiet.said f; kept = may_kept (step.each (sure.kept f)) })
+      halts_at f (Host fault) step cause same = inr (record { why = committing fault cause.0; history = history; doubt = cause.2 ∙ sym entries_are; said = alters.quiet.said f; says = may_say (step.each (sure.says f)) })
       halts_at f (Damaged named) step cause same = absurd cause
       halts_at f Full step cause same = inl (nothing Full (free, cause.1) f cause.0 (same tt))
       halts_at f NoMemory step cause same = inl (nothing NoMemory tt f cause (same tt))
+
+-- the name is taken: nothing is done
+pub taken_line : (number : ℕ) (name shown : List ℕ) (store new : StoreValue) (before now : HostState) → IsSound before → IsSure store before → store.stop ≡ None → store.doubt ≡ [] → is_taken name store.tables ≡ true → shown ≡ name → new ≡ store → now ≡ before
+    → DoesLine number (CreateTable name) (Ok (Some (Refused (Exists shown)))) store new before now
+taken_line number name shown store new before now sound sure running doubt taken shown_is same_store same =
+    rw (same_store, same)
+    (does_nothing number (CreateTable name) store before sound sure (Some (Refused (Exists shown))) running doubt
+    (ap (λ (n : List ℕ). Some (Refused (Exists n))) shown_is ∙ ap (λ (b : Bool). Some (if b then Refused (Exists name) else Done)) (sym taken))
+    (subst (λ (b : Bool). MatchBool b (station_of store ≡ station_of store) (AddsTable name (station_of store) (station_of store))) (sym taken) refl)
+    (ap (λ (b : Bool). if b then [] else entry_of number name store.tables ∷ []) taken))

@@ -18,7 +18,7 @@ use Rattle.shell.proofs.SplitLemmas.{get_at}
 use Rattle.script_words.specs.Lines.{line_of}
 use Rattle.script_words.specs.Replies.{numbered}
 use Rattle.table_store.specs.Tables.{Tables}
-use Rattle.table_store.specs.Kept.{IsKept}
+use Rattle.table_store.specs.Kept.{SaysTables}
 use Rattle.table_store.specs.Room.{Station}
 use Rattle.table_store.specs.StoreValue.{StoreValue, station_of}
 use Rattle.plain_model.specs.declared.operation.Entry.{Entry}
@@ -31,11 +31,13 @@ use Rattle.shell.specs.Walk.{Walks}
 use Rattle.shell.specs.ScriptServed.{tables_at, replies_at, entries_at, HasDone, HasReplied, LastLine, HasServedAll, HasRefused, IsHearingStop, StopsBefore, StopsInside, StopsBehind, HasStopped, HasEnded}
 use Rattle.shell.specs.Crash.{IsLastPicture, LeavesFronts}
 use Rattle.shell.specs.Serve.{IsScriptPicture, HasServed, RefusesLine}
-use Rattle.shell.proofs.StepLemmas.{tables_are, heard_leaves, heard_rests, tables_next, entries_next, walks_next, text_next, within_next, line_leaves}
+use Rattle.shell.specs.Readable.{StaysReadable}
+use Rattle.shell.proofs.ReadableLemmas.{stays_then, stays_image}
+use Rattle.shell.proofs.StepLemmas.{tables_are, heard_leaves, heard_rests, heard_readable, tables_next, entries_next, walks_next, text_next, within_next, line_leaves}
 
 -- a picture between lines is one at the end
 at_last : {tables : Tables} {texts : List (List ℕ)} {n : ℕ} {said : List ℕ} (p : Picture) → IsScriptPicture tables texts n said p → IsLastPicture tables texts n said p
-at_last p is = record { done = is.done; within = is.within; kept = is.kept; quiet = inr is.quiet }
+at_last p is = record { done = is.done; within = is.within; says = is.says; quiet = inr is.quiet }
 
 no_rest : (xs ys : List ℕ) → xs ++ ys ≡ [] → ys ≡ []
 no_rest xs ys e = nil_from_length ys (omega (arith, ap length e, length-append xs ys))
@@ -54,7 +56,7 @@ module _ {first : HostState} {start : Station} {n : ℕ} {pending : List ℕ} {s
     station = station_of store;
     walks = served.walks f;
     history = served.history f;
-    kept = subst (λ i. IsKept i (tables_at n texts tables)) (sym same) (subst (λ t. IsKept now.files t) (tables_are sound sound_now served f) (served.sure.kept (still_faithful served.keeps f)));
+    says = subst (λ i. SaysTables i (tables_at n texts tables)) (sym same) (subst (λ t. SaysTables now.files t) (tables_are sound sound_now served f) (served.sure.says (still_faithful served.keeps f)));
   }
 
   all_is : (f : IsTrue first.is_faithful) → store.history ++ store.doubt ≡ entries_at n texts tables
@@ -118,11 +120,11 @@ module _ {first : HostState} {start : Station} {n : ℕ} {pending : List ℕ} {s
     hearing_counts NoMemory why = tt
 
     module _ {text rest : List ℕ} (sound_mid : IsSound mid) (takes : IsTrue now.is_faithful → TakesLine (pending ++ now.script) text rest) (number : ℕ) (number_is : number ≡ n + 1) (few : n + 1 ≤ max_lines) {T : Type 0} (stop : Stop) {store' : StoreValue} {later : HostState} (serves : ServesLine number (line_of text) {T = T} (Err stop) store store' mid later) where
-      kept_before : IsTrue first.is_faithful → {i : Image} → IsKept i store.tables → IsKept i (tables_at n texts tables)
-      kept_before f {i} kept = subst (λ t. IsKept i t) (tables_are sound sound_now served f) kept
+      says_before : IsTrue first.is_faithful → {i : Image} → SaysTables i store.tables → SaysTables i (tables_at n texts tables)
+      says_before f {i} says = subst (λ t. SaysTables i t) (tables_are sound sound_now served f) says
 
-      kept_behind : IsTrue first.is_faithful → {i : Image} → IsKept i (tables_after (line_of text) store.tables) → IsKept i (tables_at number texts tables)
-      kept_behind f {i} kept = subst (λ t. IsKept i t) (tables_next sound sound_now served listens sound_mid takes number number_is few serves f ∙ ap (λ m. tables_at m texts tables) (sym number_is)) kept
+      says_behind : IsTrue first.is_faithful → {i : Image} → SaysTables i (tables_after (line_of text) store.tables) → SaysTables i (tables_at number texts tables)
+      says_behind f {i} says = subst (λ t. SaysTables i t) (tables_next sound sound_now served listens sound_mid takes number number_is few serves f ∙ ap (λ m. tables_at m texts tables) (sym number_is)) says
 
       last_line : IsTrue first.is_faithful → LastLine first number
       last_line f = record {
@@ -145,7 +147,7 @@ module _ {first : HostState} {start : Station} {n : ℕ} {pending : List ℕ} {s
           station = station_of store;
           walks = served.walks f;
           history = none.history ∙ served.history f;
-          kept = kept_before f none.kept;
+          says = says_before f none.says;
         };
         why = none.why;
         doubt = none.doubt;
@@ -159,7 +161,7 @@ module _ {first : HostState} {start : Station} {n : ℕ} {pending : List ℕ} {s
         last = last_line f;
         history = doubt.history ∙ served.history f;
         doubt = doubt.doubt ∙ ap (λ (t : Tables). entries_of number (line_of text) t) (tables_are sound sound_now served f);
-        kept = ⊎_elim (λ kept. inl (kept_before f kept)) (λ kept. inr (kept_behind f kept)) doubt.kept;
+        says = ⊎_elim (λ kept. inl (says_before f kept)) (λ kept. inr (says_behind f kept)) doubt.says;
         said = doubt.said ∙ mid_said f;
       }
 
@@ -173,7 +175,7 @@ module _ {first : HostState} {start : Station} {n : ℕ} {pending : List ℕ} {s
           station = station_of store';
           walks = subst (λ m. Walks (take m texts) start (station_of store')) (sym number_is) (walks_next sound sound_now served listens sound_mid takes number number_is few serves f (station_of store') unsaid.steps);
           history = unsaid.history ∙ entries_behind f;
-          kept = kept_behind f unsaid.kept;
+          says = says_behind f unsaid.says;
         };
         doubt = unsaid.doubt;
         count = unsaid.count;
@@ -211,7 +213,7 @@ module _ {first : HostState} {start : Station} {n : ℕ} {pending : List ℕ} {s
             within = served.within f;
             all = ap (λ (l : List Entry). store'.history ++ l) none.doubt ∙ append-nil store'.history ∙ none.history ∙ served.history f;
             leaves = leaves_then (leaves_weaker (heard_leaves sound sound_now served listens h rests) at_last)
-                (leaves_weaker (none.leaves (mid_honest h) (heard_rests sound sound_now served listens h rests)) (λ p before. record { done = n; within = omega arith; kept = kept_before f before.kept; quiet = inl refl }));
+                (leaves_weaker (none.leaves (mid_honest h) (heard_rests sound sound_now served listens h rests)) (λ p before. record { done = n; within = omega arith; says = says_before f before.says; quiet = inl refl }));
           }
       fronts_of h rests (inr (inl doubt)) =
           tried_line h rests (ap (λ (l : List Entry). l ++ store'.doubt) doubt.history ∙ ap (λ (l : List Entry). store.history ++ l) doubt.doubt ∙ entries_behind (sound.faithful h))
@@ -245,6 +247,9 @@ module _ {first : HostState} {start : Station} {n : ℕ} {pending : List ℕ} {s
       pub refusal_counts : (stop : Stop) → StopCounts stop mid later → StopCounts stop first later
       refusal_counts stop why = counted stop later why
 
+      pub refusal_readable : StaysReadable first later
+      refusal_readable = stays_then sound (keeps-then served.keeps listens.keeps) (λ h rests. heard_rests sound sound_now served listens h rests) (heard_readable sound sound_now served listens) (stays_image (λ f. (refuses.same f).0) refuses.leaves)
+
       pub refusal_fronts : IsTrue first.is_honest → AllSettled first → LeavesFronts first tables store.history store.doubt later
       refusal_fronts h rests =
           let f = sound.faithful h in
@@ -254,7 +259,7 @@ module _ {first : HostState} {start : Station} {n : ℕ} {pending : List ℕ} {s
             all = all_is f;
             leaves = leaves_then (leaves_weaker (heard_leaves sound sound_now served listens h rests) at_last)
                 (leaves_weaker (refuses.leaves (mid_honest h) (heard_rests sound sound_now served listens h rests))
-                (λ p same. record { done = n; within = omega arith; kept = subst (λ i. IsKept i (tables_at n texts tables)) (sym same) (done_at {later = mid} f (mid_files f)).kept; quiet = inl refl }));
+                (λ p same. record { done = n; within = omega arith; says = subst (λ i. SaysTables i (tables_at n texts tables)) (sym same) (done_at {later = mid} f (mid_files f)).says; quiet = inl refl }));
           }
 
   -- what stands next in the script

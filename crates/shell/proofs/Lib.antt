@@ -1,3 +1,5 @@
+pub mod WordsLemmas
+pub mod ReadableLemmas
 pub mod OverLemmas
 pub mod WalkLemmas
 pub mod LineLemmas
@@ -9,6 +11,7 @@ pub mod StepLemmas
 pub mod EndLemmas
 pub mod AfterLemmas
 pub mod RunLemmas
+pub mod SinceLemmas
 pub mod OpeningLemmas
 pub mod PlainLemmas
 pub mod SourceLemmas

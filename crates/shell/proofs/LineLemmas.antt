@@ -10,11 +10,12 @@ use Rattle.host_model.proofs.CallsLemmas.{quiet-refl}
 use Rattle.host_model.proofs.LeavesLemmas.{leaves_start, rests_shows}
 use Rattle.script_words.specs.declared.line.Line.{Line}
 use Rattle.script_words.specs.declared.reply.Answer.{Answer}
-use Rattle.table_store.specs.Kept.{IsKept}
+use Rattle.table_store.specs.Kept.{SaysTables}
 use Rattle.table_store.specs.StoreValue.{StoreValue, station_of}
 use Rattle.shell.specs.Serving.{answer_to, tables_after, entries_of}
 use Rattle.shell.specs.Walk.{Steps}
 use Rattle.shell.specs.LineServed.{IsSure, IsUnchanged, DoesLine}
+use Rattle.shell.proofs.ReadableLemmas.{stays_refl}
 
 -- nothing is asked of the host
 pub only_start : {kind : Picture → Type 0} {state : HostState} → IsSound state → IsTrue state.is_honest → AllSettled state → kind (picture_now state) → LeavesOnly kind state state
@@ -32,8 +33,8 @@ unchanged same = record {
 }
 
 module _ (number : ℕ) (line : Line) (store : StoreValue) (state : HostState) (sound : IsSound state) (sure : IsSure store state) where
-  shows_now : IsTrue state.is_honest → AllSettled state → LeavesOnly (Shows (λ image. IsKept image store.tables ⊎ IsKept image (tables_after line store.tables)) state.said) state state
-  shows_now h rests = only_start sound h rests (record { image = inl (sure.kept (sound.faithful h)); said_is = refl })
+  shows_now : IsTrue state.is_honest → AllSettled state → LeavesOnly (Shows (λ image. SaysTables image store.tables ⊎ SaysTables image (tables_after line store.tables)) state.said) state state
+  shows_now h rests = only_start sound h rests (record { image = inl (sure.says (sound.faithful h)); said_is = refl })
 
   -- a line that changes nothing is answered
   pub does_nothing : (answer : Option Answer) → store.stop ≡ None → store.doubt ≡ [] → answer ≡ answer_to line store.tables → Steps line (station_of store) (station_of store) → entries_of number line store.tables ≡ [] → DoesLine number line (Ok answer) store store state state
@@ -48,6 +49,7 @@ module _ (number : ℕ) (line : Line) (store : StoreValue) (state : HostState) (
     halts = λ f. tt;
     stops = tt;
     unasked = tt;
+    readable = stays_refl sound;
     leaves = shows_now;
     rests = λ h rests. rests;
   }
@@ -62,9 +64,10 @@ module _ (number : ℕ) (line : Line) (store : StoreValue) (state : HostState) (
     doubt = tt;
     steps = tt;
     history = tt;
-    halts = λ f. inl (record { why = tt; history = refl; doubt = doubt; same = unchanged refl; said = refl; kept = sure.kept f; leaves = λ h rests. only_start sound h rests (record { kept = sure.kept f; said_is = refl }) });
+    halts = λ f. inl (record { why = tt; history = refl; doubt = doubt; same = unchanged refl; said = refl; says = sure.says f; leaves = λ h rests. only_start sound h rests (record { says = sure.says f; said_is = refl }) });
     stops = tt;
     unasked = λ u. unchanged refl;
+    readable = stays_refl sound;
     leaves = shows_now;
     rests = λ h rests. tt;
   }

@@ -1,216 +1,191 @@
--- What a store that was opened or made leaves for the serving of its script.
-use Rattle.std.proofs.Common.{◌≡◌, inl, inr, ⊎_elim, ℕ, Bool, true, false, List, ◌++◌, length, Result, Ok, Err, IsTrue, IfOk, IfErr, OnOk, refl, sym, ap, subst, arith}
+-- A store is opened, or made: its nodes, and the tables that they say.
+use Rattle.std.proofs.Common.{◌≡◌, inl, inr, ⊎_elim, Bool, false, true, Ok, Err, IsTrue, refl, sym, ◌∙◌, ap, subst}
 use Rattle.std.proofs.lemmas.Bool.{false≢true}
-use Rattle.std.specs.Option.{option_to_list}
-use Rattle.host_model.specs.Picture.{Picture}
-use Rattle.host_model.specs.State.{HostState, picture_now}
-use Rattle.host_model.specs.Calls.{IsSound, Keeps, IsQuiet, Looks}
-use Rattle.host_model.specs.Leaves.{LeavesOnly, AllSettled}
+use Rattle.host_model.specs.Picture.{Image}
+use Rattle.host_model.specs.State.{HostState}
+use Rattle.host_model.specs.Calls.{IsSound, Looks}
+use Rattle.host_model.specs.Leaves.{AllSettled}
 use Rattle.host_model.specs.declared.fault.Stop.{Stop}
 use Rattle.host_model.specs.declared.fault.Stop.TheVariants.{Host, Damaged, Full, NoMemory}
-use Rattle.host_model.proofs.CallsLemmas.{keeps-then, faulted-then, still_faithful, still_honest, was_faithful, on_ok_of}
-use Rattle.host_model.proofs.LeavesLemmas.{leaves_weaker, leaves_then, same_leave, rests_after_same}
-use Rattle.table_store.specs.Tables.{Tables, no_tables}
-use Rattle.table_store.specs.Room.{Station, IsNewStation}
-use Rattle.table_store.specs.Layout.{nodes_name}
-use Rattle.table_store.specs.Kept.{IsKept, IsUnbornDisk}
-use Rattle.node_store.specs.Image.{IsStored}
-use Rattle.table_store.specs.StoreValue.{StoreValue, IsFresh, Makes, InitStops, OpenStops, station_of}
-use Rattle.table_store.specs.declared.stop.StoreStop.{StoreStop}
-use Rattle.plain_model.specs.declared.operation.Entry.{Entry}
-use Rattle.shell.specs.LineServed.{IsSure, StopCounts}
-use Rattle.script_source.specs.Script.{lines_of}
-use Rattle.shell.specs.Script.{texts_of, AreWithin}
-use Rattle.shell.specs.ScriptServed.{entries_at, HasDone, LastLine, HasServedAll, HasRefused, HasStopped, HasEnded}
-use Rattle.shell.specs.Crash.{IsLastPicture, LeavesFronts}
-use Rattle.shell.specs.Running.{Begins, ServesScript, LeavesLines, LeavesDisk, OpensStore}
-use Rattle.shell.specs.declared.outcomes.Outcome.{Outcome}
-use Rattle.shell.specs.declared.ending.Ending.{Ending}
-use Rattle.shell.specs.declared.ending.Ending.TheVariants.{ScriptEnd, NoLine}
+use Rattle.host_model.proofs.CallsLemmas.{was_faithful}
+use Rattle.host_model.proofs.LeavesLemmas.{leaves_weaker, same_leave, rests_after_same}
+use Rattle.node_store.specs.Image.{HasNodes, IsBorn, IsStored}
+use Rattle.node_store.specs.Value.{StoreValue as NodeStoreValue}
+use Rattle.node_store.proofs.ImageLemmas.{one_nodes, stored_has}
+use Rattle.store_layout.specs.Names.{nodes_name}
+use Rattle.store_layout.specs.NewStore.{IsUnbornDisk, IsNewStore}
+use Rattle.store_meaning.specs.Readable.{IsReadable}
+use Rattle.ground_store.specs.Opening as opening
+use Rattle.ground_store.specs.declared.stop.GroundStop.{GroundStop}
+use Rattle.ground_store.specs.declared.stop.GroundStop.TheVariants.{NotInit, NotBlank, Stop as Stopped}
+use Rattle.table_store.specs.Tables.{no_tables}
+use Rattle.table_store.specs.Reading.{IsReading, HasNoReading}
+use Rattle.table_store.specs.Kept.{SaysNoTables}
+use Rattle.table_store.specs.Laws.{NewStoresAreKept}
+use Rattle.table_store.specs.StoreValue.{StoreValue, IsFresh, ReadStops}
+use Rattle.table_store.proofs.FirstLemmas.{reading_first}
+use Rattle.table_store.proofs.LawsLemmas.{one_reading}
+use Rattle.table_store.proofs.CreatingLemmas.{says_stored}
+use Rattle.shell.specs.Readable.{IsLeft, LeavesReadable}
+use Rattle.shell.specs.Opening.{OpenStops, InitStops, IsBegunOrNot, LeavesDisk, OpensStore}
 
--- what the serving of the script left, in terms of a moment before it
-pub record LeavesSince (tables : Tables) (past maybe : List Entry) (first mid now : HostState) : Type 0 where
-  pub tried : ℕ
-  pub within : AreWithin (lines_of first.script) tried
-  pub all : past ++ maybe ≡ entries_at tried (texts_of first.script) tables
-  pub leaves : LeavesOnly (IsLastPicture tables (texts_of first.script) tried first.said) mid now
+-- ---- a store that is there
 
-module _ (first mid now : HostState) (start : Station) (said : first.said ≡ mid.said) (script : first.script ≡ mid.script) where
-  done_since : {count : ℕ} {past : List Entry} → HasDone mid start count past now → HasDone first start count past now
-  done_since is = record {
-    within = rw script is.within;
-    station = is.station;
-    walks = rw script is.walks;
-    history = rw script is.history;
-    kept = rw script is.kept;
-  }
+left_looked : {old new : HostState} → Looks old new → LeavesDisk false old new
+left_looked looks = record { quiet = looks.quiet; looks = λ _. looks; spares = λ e. absurd (false≢true e); tried = λ e. absurd (false≢true e); leaves = λ e. absurd (false≢true e) }
 
-  last_since : {lines : ℕ} → LastLine mid lines → LastLine first lines
-  last_since is = record {
-    before = is.before;
-    lines_are = is.lines_are;
-    within = rw script is.within;
-    text = is.text;
-    is = rw script is.is;
-  }
-
-  served_since : {lines : ℕ} {past maybe : List Entry} → HasServedAll mid start lines past maybe now → HasServedAll first start lines past maybe now
-  served_since is = record {
-    all = rw script is.all;
-    heard = is.heard;
-    done = done_since is.done;
-    doubt = is.doubt;
-    said = rw (script, said) is.said;
-  }
-
-  refused_since : {lines : ℕ} {past maybe : List Entry} {front : List ℕ} → HasRefused mid start lines past maybe front now → HasRefused first start lines past maybe front now
-  refused_since is = record {
-    before = is.before;
-    lines_are = is.lines_are;
-    over = rw script is.over;
-    done = done_since is.done;
-    doubt = is.doubt;
-    said = rw (script, said) is.said;
-  }
-
-  stopped_since : {lines : ℕ} {past maybe : List Entry} (stop : Stop) → HasStopped stop mid start lines past maybe now → HasStopped stop first start lines past maybe now
-  unfolding done_since last_since
-  stopped_since stop (inl is) = inl (record { why = is.why; done = done_since is.done; doubt = is.doubt; said = rw (script, said) is.said })
-  stopped_since stop (inr (inl is)) = inr (inl (record { why = is.why; count = is.count; refused = refused_since is.refused }))
-  stopped_since stop (inr (inr (inl is))) = inr (inr (inl (record {
-    last = last_since is.last;
-    done = done_since is.done;
-    why = is.why;
-    doubt = is.doubt;
-    said = rw (script, said) is.said;
-  })))
-  stopped_since stop (inr (inr (inr (inl is)))) = inr (inr (inr (inl (record {
-    why = is.why;
-    last = last_since is.last;
-    history = rw script is.history;
-    doubt = rw script is.doubt;
-    kept = rw script is.kept;
-    said = rw (script, said) is.said;
-  }))))
-  stopped_since stop (inr (inr (inr (inr is)))) = inr (inr (inr (inr (record {
-    why = is.why;
-    last = last_since is.last;
-    done = done_since is.done;
-    doubt = is.doubt;
-    count = is.count;
-    said = rw (script, said) is.said;
-  }))))
-
-  pub ended_since : (ending : Result Ending Stop) (lines : ℕ) (past maybe : List Entry) → HasEnded ending mid start lines past maybe now → HasEnded ending first start lines past maybe now
-  ended_since (Ok ScriptEnd) lines past maybe is = served_since is
-  ended_since (Ok NoLine) lines past maybe is = refused_since is
-  ended_since (Err stop) lines past maybe is = stopped_since stop is
-
-  pub leaves_since : (past maybe : List Entry) → LeavesFronts mid start.tables past maybe now → LeavesSince start.tables past maybe first mid now
-  leaves_since past maybe is = record {
-    tried = is.tried;
-    within = rw script is.within;
-    all = rw script is.all;
-    leaves = rw (script, said) is.leaves;
-  }
-
-counts_since : (ending : Result Ending Stop) (first mid now : HostState) → Keeps first mid → IfErr ending (λ stop. StopCounts stop mid now) → IfErr ending (λ stop. StopCounts stop first now)
-counts_since (Ok ending) first mid now keeps why = tt
-counts_since (Err stop) first mid now keeps why = at stop why
+-- there are no nodes to open
+pub unopened : (stop : GroundStop) {old new : HostState} → Looks old new → opening.OpenStops stop old new → OpensStore false (Err stop) old new
+unopened stop {old} {new} looks why = record {
+  fresh = tt;
+  sure = tt;
+  begins = λ f. tt;
+  readable = λ f start. tt;
+  stops = at stop why;
+  left = left_looked looks;
+  rests = λ h rests. tt;
+}
   where
-    at : (stop : Stop) → StopCounts stop mid now → StopCounts stop first now
-    at (Host fault) why = faulted-then keeps why
-    at (Damaged name) why = why
-    at Full why = tt
-    at NoMemory why = tt
+    at : (s : GroundStop) → opening.OpenStops s old new → OpenStops s old new
+    at NotInit why = why
+    at NotBlank why = why
+    at (Stopped (Host fault)) why = why
+    at (Stopped (Damaged named)) why = (why.0, λ f. ((why.1 f).0, record { none = λ tables says. (why.1 f).1.none says.nodes says.has }))
+    at (Stopped Full) why = why
+    at (Stopped NoMemory) why = tt
 
--- the start of a script shows the tables as they were
-at_start : {tables : Tables} {texts : List (List ℕ)} {tried : ℕ} {said : List ℕ} (p : Picture) → IsKept p.image tables → p.said ≡ said → IsLastPicture tables texts tried said p
-at_start p kept said_is = record { done = 0; within = omega arith; kept = kept; quiet = inr (omega (arith, ap length said_is)) }
-
-module _ {first mid now : HostState} (start : Station) {outcome : Outcome} (sound : IsSound first) (quiet : IsQuiet first mid) (rests_mid : IsTrue first.is_honest → AllSettled first → AllSettled mid) where
-  pub serves_since : ServesScript mid start outcome now → ServesScript first start outcome now
-  serves_since is = record {
-    ending = is.ending;
-    status = is.status;
-    damaged = is.damaged;
-    keeps = keeps-then quiet.keeps is.keeps;
-    ended = λ f. ended_since first mid now start (sym (quiet.said f)) (sym (quiet.script f)) is.ending outcome.lines outcome.history (option_to_list outcome.doubt) (is.ended (still_faithful quiet.keeps f));
-    stops = counts_since is.ending first mid now quiet.keeps is.stops;
-    rests = λ h rests. is.rests (still_honest quiet.keeps h) (rests_mid h rests);
+module _ (nodes : NodeStoreValue) (named : nodes.name ≡ nodes_name) where
+  says_none : (image : Image) → IsStored nodes image → HasNoReading nodes.nodes → SaysNoTables image
+  says_none image stored none = record {
+    none = λ tables says.
+        let has = subst (λ n. HasNodes n image nodes.nodes) named (stored_has nodes image stored) in
+        none.none tables (subst (λ n. IsReading n tables) (one_nodes nodes_name image says.nodes nodes.nodes says.has has) says.reading);
   }
 
-  pub lines_since : (init : Bool) → LeavesDisk init first mid → (IsTrue first.is_faithful → Begins init first.files start)
-      → (IsTrue mid.is_honest → AllSettled mid → LeavesFronts mid start.tables outcome.history (option_to_list outcome.doubt) now)
-      → IsTrue first.is_honest → AllSettled first → LeavesLines init first start.tables outcome now
-  lines_since false left begins crash h rests =
-      let f = sound.faithful h in
-      let is = leaves_since first mid now start (sym (quiet.said f)) (sym (quiet.script f)) _ _ (crash (still_honest quiet.keeps h) (rests_mid h rests)) in
-      record {
-        tried = is.tried;
-        within = is.within;
-        all = is.all;
-        leaves = leaves_then (same_leave _ sound h rests ((left.looks refl).moves h) (at_start (picture_now first) (begins f).kept refl)) is.leaves;
-      }
-  lines_since true left begins crash h rests =
-      let f = sound.faithful h in
-      let is = leaves_since first mid now start (sym (quiet.said f)) (sym (quiet.script f)) _ _ (crash (still_honest quiet.keeps h) (rests_mid h rests)) in
-      record {
-        tried = is.tried;
-        within = is.within;
-        all = is.all;
-        leaves = leaves_then
-            (leaves_weaker (left.leaves refl h rests (begins f).0) (λ p shows. ⊎_elim (λ unborn. inl (record { unborn = unborn; said_is = shows.said_is })) (λ kept. inr (at_start p (subst (λ t. IsKept p.image t) (sym (begins f).1.tables) kept) shows.said_is)) shows.image))
-            (leaves_weaker is.leaves (λ p last. inr last));
-      }
+  module _ {old new : HostState} (looks : Looks old new) (stored : IsTrue old.is_faithful → IsStored nodes old.files) where
+    -- the nodes say no tables, or there was no memory for them
+    pub unread : (stop : Stop) → (IsTrue old.is_faithful → IsBorn nodes_name old.files) → ReadStops stop nodes.nodes → OpensStore false (Err (Stopped stop)) old new
+    unread stop born why = record {
+      fresh = tt;
+      sure = tt;
+      begins = λ f. tt;
+      readable = λ f start. tt;
+      stops = at stop why;
+      left = left_looked looks;
+      rests = λ h rests. tt;
+    }
+      where
+        at : (s : Stop) → ReadStops s nodes.nodes → OpenStops (Stopped s) old new
+        at (Host fault) why = absurd why
+        at (Damaged name) why = (why.0, λ f. (born f, says_none old.files (stored f) why.1))
+        at Full why = why
+        at NoMemory why = tt
 
--- an open store is sure, as over a faithful host its files are those that were read
-sure_of : (result : Result StoreValue StoreStop) (new : HostState) → (IsTrue new.is_faithful → IfOk result (λ store. IsStored store.nodes new.files)) → (IsTrue new.is_faithful → IfOk result (λ store. IsKept new.files store.tables)) → IfOk result (λ store. IsSure store new)
-sure_of (Ok store) new stored kept = record { stored = stored; kept = kept }
-sure_of (Err stop) new stored kept = tt
+    pub opened : (store : StoreValue) → IsSound old → IsFresh store → store.nodes ≡ nodes → IsReading nodes.nodes store.tables → OpensStore false (Ok store) old new
+    opened store sound fresh is reading = record {
+      fresh = fresh;
+      sure = record {
+        stored = λ n. subst (λ i. IsStored store.nodes i) (sym (looks.same (was_faithful looks.quiet.keeps n))) (stored_now (was_faithful looks.quiet.keeps n));
+        says = λ n. let f = was_faithful looks.quiet.keeps n in says_stored nodes store.tables new.files named reading (subst (λ i. IsStored nodes i) (sym (looks.same f)) (stored f));
+      };
+      begins = λ f. record { stored = stored_now f; file = ap (λ (n : NodeStoreValue). n.name) is ∙ named; says = says_stored nodes store.tables old.files named reading (stored f) };
+      readable = λ f is. subst (λ i. IsReadable i) (sym (looks.same f)) is;
+      stops = tt;
+      left = left_looked looks;
+      rests = λ h rests. rests_after_same (looks.moves h) (looks.same (sound.faithful h)) rests;
+    }
+      where
+        stored_now : IsTrue old.is_faithful → IsStored store.nodes old.files
+        stored_now f = subst (λ n. IsStored n old.files) (sym is) (stored f)
 
-module _ (result : Result StoreValue StoreStop) {old new : HostState} where
-  pub opens : IsSound old → Looks old new → IfOk result IsFresh → (IsTrue old.is_faithful → IfOk result (λ store. IsStored store.nodes old.files)) → IfOk result (λ store. store.nodes.name ≡ nodes_name) → (IsTrue old.is_faithful → IfOk result (λ store. IsKept old.files store.tables))
-      → IfErr result (λ stop. OpenStops stop old new) → OpensStore false result old new
-  opens sound looks fresh stored file kept stops = record {
-    fresh = fresh;
-    sure = sure_of result new
-        (λ n. let f = was_faithful looks.quiet.keeps n in subst (λ i. IfOk result (λ store. IsStored store.nodes i)) (sym (looks.same f)) (stored f))
-        (λ n. let f = was_faithful looks.quiet.keeps n in subst (λ i. IfOk result (λ store. IsKept i store.tables)) (sym (looks.same f)) (kept f));
-    begins = λ f. store_at result (stored f) file (kept f);
-    stops = stops;
-    left = record { quiet = looks.quiet; looks = λ _. looks; tried = λ e. absurd (false≢true e); leaves = λ e. absurd (false≢true e) };
-    rests = λ h rests. on_ok_of result (rests_after_same (looks.moves h) (looks.same (sound.faithful h)) rests);
+-- ---- a new store
+
+module _ (kept : NewStoresAreKept) {old new : HostState} (begins : opening.Begins old new) (spares : IsTrue old.is_faithful → (IsUnbornDisk old.files → ⊥) → Looks old new) where
+  begun : (image : Image) → opening.IsBegunOrNot image → IsBegunOrNot image
+  begun image is = ⊎_elim (λ unborn. inl unborn) (λ made. inr (kept image made)) is
+
+  left_made : LeavesDisk true old new
+  left_made = record {
+    quiet = begins.quiet;
+    looks = λ e. absurd (false≢true (sym e));
+    spares = λ _. spares;
+    tried = λ _ f disk. begun new.files (begins.tried f disk);
+    leaves = λ _ h rests disk. leaves_weaker (begins.leaves h rests disk) (λ p shows. record { image = begun p.image shows.image; said_is = shows.said_is });
   }
-    where
-      store_at : (r : Result StoreValue StoreStop) → IfOk r (λ store. IsStored store.nodes old.files) → IfOk r (λ store. store.nodes.name ≡ nodes_name) → IfOk r (λ store. IsKept old.files store.tables) → IfOk r (λ store. Begins false old.files (station_of store))
-      store_at (Ok store) stored file kept = record { stored = stored; file = file; kept = kept }
-      store_at (Err stop) stored file kept = tt
 
-  pub makes_store : Makes result old new → IfOk result (λ store. IsFresh store × IsNewStation (station_of store)) → (IsTrue new.is_faithful → IfOk result (λ store. IsStored store.nodes new.files)) → (IsTrue new.is_faithful → OnOk result (IsKept new.files no_tables))
-      → (IsTrue old.is_faithful → OnOk result (IsUnbornDisk old.files)) → IfErr result (λ stop. InitStops stop old new) → OpensStore true result old new
-  makes_store makes made stored kept unborn stops = record {
-    fresh = fresh_at result made;
-    sure = sure_of result new stored (λ n. kept_at result made (kept n));
-    begins = λ f. begins_at result made (unborn f);
-    stops = stops;
-    left = record {
-      quiet = makes.quiet;
-      looks = λ e. absurd (false≢true (sym e));
-      tried = λ _ f was. (makes.tried f).each was;
-      leaves = λ _ h rests was. makes.leaves h rests was;
-    };
-    rests = makes.rests;
+  -- no nodes were made
+  pub unmade : (stop : GroundStop) → opening.InitStops stop old new → OpensStore true (Err stop) old new
+  unmade stop why = record {
+    fresh = tt;
+    sure = tt;
+    begins = λ f. tt;
+    readable = λ f start. tt;
+    stops = at stop why;
+    left = left_made;
+    rests = λ h rests. tt;
   }
     where
-      fresh_at : (r : Result StoreValue StoreStop) → IfOk r (λ store. IsFresh store × IsNewStation (station_of store)) → IfOk r IsFresh
-      fresh_at (Ok store) is = is.0
-      fresh_at (Err stop) is = tt
+      at : (s : GroundStop) → opening.InitStops s old new → InitStops s old new
+      at NotInit why = why
+      at NotBlank why = why
+      at (Stopped (Host fault)) why = why
+      at (Stopped (Damaged named)) why = why
+      at (Stopped Full) why = why
+      at (Stopped NoMemory) why = tt
 
-      kept_at : (r : Result StoreValue StoreStop) → IfOk r (λ store. IsFresh store × IsNewStation (station_of store)) → OnOk r (IsKept new.files no_tables) → IfOk r (λ store. IsKept new.files store.tables)
-      kept_at (Ok store) is kept = subst (λ t. IsKept new.files t) (sym is.1.tables) kept
-      kept_at (Err stop) is kept = tt
+  module _ (made : NodeStoreValue) (first : opening.AreFirst made) where
+    -- there was no memory for their tables
+    pub unread_new : (stop : Stop) → ReadStops stop made.nodes → OpensStore true (Err (Stopped stop)) old new
+    unread_new stop why = record {
+      fresh = tt;
+      sure = tt;
+      begins = λ f. tt;
+      readable = λ f start. tt;
+      stops = at stop why;
+      left = left_made;
+      rests = λ h rests. tt;
+    }
+      where
+        at : (s : Stop) → ReadStops s made.nodes → InitStops (Stopped s) old new
+        at (Host fault) why = absurd why
+        at (Damaged name) why = why.1.none no_tables (reading_first made.nodes first.made)
+        at Full why = why
+        at NoMemory why = tt
 
-      begins_at : (r : Result StoreValue StoreStop) → IfOk r (λ store. IsFresh store × IsNewStation (station_of store)) → OnOk r (IsUnbornDisk old.files) → IfOk r (λ store. Begins true old.files (station_of store))
-      begins_at (Ok store) is was = (was, is.1)
-      begins_at (Err stop) is was = tt
+    pub made_store : (store : StoreValue) → IsFresh store → store.nodes ≡ made → IsReading made.nodes store.tables → (IsTrue old.is_faithful → IsUnbornDisk old.files) → (IsTrue old.is_faithful → IsNewStore new.files)
+        → (IsTrue new.is_faithful → IsStored made new.files) → (IsTrue old.is_honest → AllSettled old → AllSettled new) → OpensStore true (Ok store) old new
+    made_store store fresh is reading unborn new_store stored rests = record {
+      fresh = fresh;
+      sure = record {
+        stored = λ n. subst (λ s. IsStored s new.files) (sym is) (stored n);
+        says = λ n. says_stored made store.tables new.files first.name reading (stored n);
+      };
+      begins = λ f. (
+        unborn f,
+        record {
+          nodes = first.made ∙ ap (λ (n : NodeStoreValue). Ok n.nodes) (sym is);
+          file = ap (λ (n : NodeStoreValue). n.name) is ∙ first.name;
+          end = ap (λ (n : NodeStoreValue). n.end) is ∙ first.end;
+          tables = one_reading made.nodes store.tables no_tables reading (reading_first made.nodes first.made);
+        },
+      );
+      readable = λ f start. (kept new.files (new_store f)).readable;
+      stops = tt;
+      left = left_made;
+      rests = rests;
+    }
+
+-- ---- what can be read of it
+
+pub disk_readable : (init : Bool) {first now : HostState} → LeavesDisk init first now → IsSound first → LeavesReadable init first now
+disk_readable false left sound = record {
+  tried = λ f is. subst (λ i. IsReadable i) (sym ((left.looks refl).same f)) is;
+  leaves = λ h rests is. same_leave (λ p. IsReadable p.image) sound h rests ((left.looks refl).moves h) is;
+}
+disk_readable true left sound = record {
+  tried = λ f disk. read_or_not (left.tried refl f disk);
+  leaves = λ h rests disk. leaves_weaker (left.leaves refl h rests disk) (λ p shows. read_or_not shows.image);
+}
+  where
+    read_or_not : {image : Image} → IsBegunOrNot image → IsLeft true image
+    read_or_not is = ⊎_elim (λ unborn. inl unborn) (λ kept. inr kept.readable) is

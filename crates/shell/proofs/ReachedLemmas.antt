@@ -9,7 +9,7 @@ use Rattle.script_words.specs.declared.line.Line.TheVariants.{Blank}
 use Rattle.plain_model.specs.State.{PlainState}
 use Rattle.plain_model.specs.History.{after}
 use Rattle.table_store.specs.Tables.{Tables, plain_of}
-use Rattle.table_store.specs.Kept.{IsKept}
+use Rattle.table_store.specs.Kept.{SaysTables}
 use Rattle.table_store.specs.Room.{Station}
 use Rattle.plain_model.specs.declared.operation.Entry.{Entry}
 use Rattle.script_source.specs.Script.{lines_of}
@@ -37,7 +37,7 @@ pub record IsNext (tables : Tables) (maybe : List Entry) : Type 0 where
 pub record HasReached (texts : List (List ℕ)) (tables : Tables) (lines : ℕ) (past maybe : List Entry) (image : Image) : Type 0 where
   pub count : ℕ
   pub far : lines ≤ count + 1
-  pub kept : IsKept image (tables_at count texts tables)
+  pub says : SaysTables image (tables_at count texts tables)
   pub entries : ((past ≡ entries_at count texts tables) × IsNext (tables_at count texts tables) maybe) ⊎ (past ++ maybe ≡ entries_at count texts tables)
 
 -- the entries are those of so many lines
@@ -63,22 +63,22 @@ module _ (first now : HostState) (start : Station) (lines : ℕ) (past maybe : L
 
   inside : (stop : Stop) → StopsInside stop first start lines past maybe now → HasReached (texts_of first.script) start.tables lines past maybe now.files
   inside stop stops = ⊎_elim
-      (λ kept. record { count = stops.last.before; far = omega (arith, stops.last.lines_are); kept = kept; entries = inl (stops.history, record { number = lines; line = line_of stops.last.text; are = stops.doubt }) })
-      (λ kept. record { count = lines; far = omega arith; kept = kept; entries = inr (all_inside stop stops) })
-      stops.kept
+      (λ kept. record { count = stops.last.before; far = omega (arith, stops.last.lines_are); says = kept; entries = inl (stops.history, record { number = lines; line = line_of stops.last.text; are = stops.doubt }) })
+      (λ kept. record { count = lines; far = omega arith; says = kept; entries = inr (all_inside stop stops) })
+      stops.says
 
   pub reached : (ending : Result Ending Stop) → HasEnded ending first start lines past maybe now → HasReached (texts_of first.script) start.tables lines past maybe now.files
-  reached (Ok ScriptEnd) ended = record { count = lines; far = omega arith; kept = ended.done.kept; entries = inl (ended.done.history, none ended.doubt) }
-  reached (Ok NoLine) ended = record { count = ended.before; far = omega (arith, ended.lines_are); kept = ended.done.kept; entries = inl (ended.done.history, none ended.doubt) }
+  reached (Ok ScriptEnd) ended = record { count = lines; far = omega arith; says = ended.done.says; entries = inl (ended.done.history, none ended.doubt) }
+  reached (Ok NoLine) ended = record { count = ended.before; far = omega (arith, ended.lines_are); says = ended.done.says; entries = inl (ended.done.history, none ended.doubt) }
   reached (Err stop) ended = ⊎_elim
-      (λ s. record { count = lines; far = omega arith; kept = s.done.kept; entries = inl (s.done.history, none s.doubt) })
+      (λ s. record { count = lines; far = omega arith; says = s.done.says; entries = inl (s.done.history, none s.doubt) })
       (λ more. ⊎_elim
-      (λ s. record { count = s.refused.before; far = omega (arith, s.refused.lines_are); kept = s.refused.done.kept; entries = inl (s.refused.done.history, none s.refused.doubt) })
+      (λ s. record { count = s.refused.before; far = omega (arith, s.refused.lines_are); says = s.refused.done.says; entries = inl (s.refused.done.history, none s.refused.doubt) })
       (λ more. ⊎_elim
-      (λ s. record { count = s.last.before; far = omega (arith, s.last.lines_are); kept = s.done.kept; entries = inl (s.done.history, none s.doubt) })
+      (λ s. record { count = s.last.before; far = omega (arith, s.last.lines_are); says = s.done.says; entries = inl (s.done.history, none s.doubt) })
       (λ more. ⊎_elim
       (λ s. inside stop s)
-      (λ s. record { count = lines; far = omega arith; kept = s.done.kept; entries = inl (s.done.history, none s.doubt) })
+      (λ s. record { count = lines; far = omega arith; says = s.done.says; entries = inl (s.done.history, none s.doubt) })
       more)
       more)
       more)
@@ -111,14 +111,14 @@ pub record Applies (tables : Tables) (entries : List Entry) : Type 0 where
   pub last : PlainState
   pub applied : after entries (plain_of tables) ≡ Some last
 
-next_applied : (texts : List (List ℕ)) (tables : Tables) (count : ℕ) (past maybe : List Entry) (image : Image) → CanGoOn tables → IsKept image (tables_at count texts tables)
+next_applied : (texts : List (List ℕ)) (tables : Tables) (count : ℕ) (past maybe : List Entry) (image : Image) → CanGoOn tables → SaysTables image (tables_at count texts tables)
     → past ≡ entries_at count texts tables → IsNext (tables_at count texts tables) maybe → Applies tables (past ++ maybe)
 next_applied texts tables count past maybe image go kept are next = record {
   last = plain_of (tables_after next.line here);
   applied =
       after-append past maybe (plain_of tables) (plain_of here) (applied_at texts tables count past image go kept are)
       ∙ ap (λ es. after es (plain_of here)) next.are
-      ∙ after_line next.number next.line here kept.reading.ids kept.reading.next.drawable;
+      ∙ after_line next.number next.line here kept.reading.ids (record { positive = kept.reading.next.value.least; below = kept.reading.next.value.most });
 }
   where
     here : Tables
@@ -126,8 +126,8 @@ next_applied texts tables count past maybe image go kept are next = record {
 
 pub applies_all : (texts : List (List ℕ)) (tables : Tables) (lines : ℕ) (past maybe : List Entry) (image : Image) → CanGoOn tables → HasReached texts tables lines past maybe image → Applies tables (past ++ maybe)
 applies_all texts tables lines past maybe image go has = ⊎_elim
-    (λ are. next_applied texts tables has.count past maybe image go has.kept are.0 are.1)
-    (λ are. record { last = plain_of (tables_at has.count texts tables); applied = applied_at texts tables has.count (past ++ maybe) image go has.kept are })
+    (λ are. next_applied texts tables has.count past maybe image go has.says are.0 are.1)
+    (λ are. record { last = plain_of (tables_at has.count texts tables); applied = applied_at texts tables has.count (past ++ maybe) image go has.says are })
     has.entries
 
 pub of_lines : (first : HostState) (tables : Tables) (entries : List Entry) → HasTried first tables entries → Applies tables entries → AreOfLines first tables entries

@@ -11,6 +11,7 @@ use Rattle.script_words.specs.Lines.{line_of}
 use Rattle.table_store.specs.Tables.{Tables}
 use Rattle.table_store.specs.Room.{Station}
 use Rattle.table_store.specs.StoreValue.{StoreValue, station_of}
+use Rattle.shell.proofs.ReadableLemmas.{stays_refl}
 use Rattle.shell.specs.Serving.{tables_after, entries_of, reply_to, tables_over, replies_over, entries_over}
 use Rattle.shell.specs.Script.{max_lines, AreWithin}
 use Rattle.shell.specs.LineServed.{IsSure}
@@ -34,7 +35,8 @@ served_start store first sound running doubt history sure = record {
   walks = λ f. refl;
   history = λ f. history;
   said = λ f. sym (append-nil first.said);
-  leaves = λ h rests. only_start sound h rests (record { done = 0; within = omega arith; kept = sure.kept (sound.faithful h); quiet = omega arith });
+  readable = stays_refl sound;
+  leaves = λ h rests. only_start sound h rests (record { done = 0; within = omega arith; says = sure.says (sound.faithful h); quiet = omega arith });
   rests = λ h rests. rests;
 }
 

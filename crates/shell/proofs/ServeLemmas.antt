@@ -15,11 +15,12 @@ use Rattle.node_store.specs.Image.{IsStored}
 use Rattle.script_words.specs.declared.line.Line.{Line}
 use Rattle.script_words.specs.declared.reply.Answer.{Answer}
 use Rattle.script_words.specs.Replies.{reply_of}
-use Rattle.table_store.specs.Kept.{IsKept}
+use Rattle.table_store.specs.Kept.{SaysTables}
 use Rattle.table_store.specs.StoreValue.{StoreValue, IsUnasked}
 use Rattle.shell.specs.Serving.{spelled, tables_after, reply_to}
 use Rattle.shell.specs.LineServed.{IsLinePicture, IsReplyStop, DoesLine, ServesLine}
 use Rattle.shell.proofs.WalkLemmas.{steps-tables}
+use Rattle.shell.proofs.ReadableLemmas.{stays_said, stays_then}
 
 not_full : ◌≡◌ {A = Stop} NoMemory Full → ⊥
 not_full is = cc
@@ -29,11 +30,11 @@ no_fault_full fault is = cc
 
 module _ (number : ℕ) (line : Line) (old new : StoreValue) (before mid : HostState) where
   -- nothing of the reply was said
-  silent : (p : Picture) → Shows (λ image. IsKept image old.tables ⊎ IsKept image (tables_after line old.tables)) before.said p → IsLinePicture number line old.tables before.said p
+  silent : (p : Picture) → Shows (λ image. SaysTables image old.tables ⊎ SaysTables image (tables_after line old.tables)) before.said p → IsLinePicture number line old.tables before.said p
   silent p shows =
       ⊎_elim
-      (λ kept. inl (record { kept = kept; said_is = shows.said_is }))
-      (λ kept. inr (record { kept = kept; count = 0; said_is = shows.said_is ∙ sym (append-nil before.said) }))
+      (λ kept. inl (record { says = kept; said_is = shows.said_is }))
+      (λ kept. inr (record { says = kept; count = 0; said_is = shows.said_is ∙ sym (append-nil before.said) }))
       shows.image
 
   -- the line stopped before its reply
@@ -50,6 +51,7 @@ module _ (number : ℕ) (line : Line) (old new : StoreValue) (before mid : HostS
     halts = λ f. ⊎_elim (λ none. inl none) (λ doubt. inr (inl doubt)) (does.halts f);
     stops = does.stops;
     full = λ is. does.unasked (subst (λ (s : Stop). IsUnasked s) (sym is) tt);
+    readable = does.readable;
     leaves = λ h rests. leaves_weaker (does.leaves h rests) silent;
     rests = λ h rests. tt;
   }
@@ -68,13 +70,14 @@ module _ (number : ℕ) (line : Line) (old new : StoreValue) (before mid : HostS
     halts = λ f. tt;
     stops = tt;
     full = tt;
+    readable = does.readable;
     leaves = λ h rests. leaves_weaker (does.leaves h rests) silent;
     rests = does.rests;
   }
 
   module _ (answer : Answer) (does : DoesLine number line (Ok (Some answer)) old new before mid) where
-    after_kept : IsTrue before.is_faithful → IsKept mid.files (tables_after line old.tables)
-    after_kept f = subst (λ t. IsKept mid.files t) (steps-tables line _ _ does.steps) (does.sure.kept (still_faithful does.quiet.keeps f))
+    after_says : IsTrue before.is_faithful → SaysTables mid.files (tables_after line old.tables)
+    after_says f = subst (λ t. SaysTables mid.files t) (steps-tables line _ _ does.steps) (does.sure.says (still_faithful does.quiet.keeps f))
 
     -- there was no memory for the reply
     pub unspelled : (T : Type 0) → ServesLine number line {T = T} (Err NoMemory) old new before mid
@@ -87,9 +90,10 @@ module _ (number : ℕ) (line : Line) (old new : StoreValue) (before mid : HostS
       steps = tt;
       history = tt;
       said = λ f. tt;
-      halts = λ f. inr (inr (record { why = tt; steps = does.steps; history = does.history; doubt = does.doubt; count = 0; said = does.quiet.said f ∙ sym (append-nil before.said); kept = after_kept f }));
+      halts = λ f. inr (inr (record { why = tt; steps = does.steps; history = does.history; doubt = does.doubt; count = 0; said = does.quiet.said f ∙ sym (append-nil before.said); says = after_says f }));
       stops = tt;
       full = λ is. absurd (not_full is);
+      readable = does.readable;
       leaves = λ h rests. leaves_weaker (does.leaves h rests) silent;
       rests = λ h rests. tt;
     }
@@ -104,7 +108,7 @@ module _ (number : ℕ) (line : Line) (old new : StoreValue) (before mid : HostS
           where
             told : (p : Picture) → Told mid.files mid.said reply p → IsLinePicture number line old.tables before.said p
             told p is = inr (record {
-              kept = subst (λ i. IsKept i (tables_after line old.tables)) (sym is.image_is) (after_kept (sound.faithful h));
+              says = subst (λ i. SaysTables i (tables_after line old.tables)) (sym is.image_is) (after_says (sound.faithful h));
               count = is.count;
               said_is = is.said_is ∙ ap (λ l. l ++ take is.count reply) (does.quiet.said (sound.faithful h)) ∙ ap (λ l. before.said ++ take is.count l) reply_is;
             })
@@ -116,7 +120,7 @@ module _ (number : ℕ) (line : Line) (old new : StoreValue) (before mid : HostS
         running = does.running;
         sure = record {
           stored = λ f. let at = was_faithful says.keeps f in subst (λ i. IsStored new.nodes i) (sym (says.same at).0) (does.sure.stored at);
-          kept = λ f. let at = was_faithful says.keeps f in subst (λ i. IsKept i new.tables) (sym (says.same at).0) (does.sure.kept at);
+          says = λ f. let at = was_faithful says.keeps f in subst (λ i. SaysTables i new.tables) (sym (says.same at).0) (does.sure.says at);
         };
         doubt = does.doubt;
         steps = does.steps;
@@ -125,6 +129,7 @@ module _ (number : ℕ) (line : Line) (old new : StoreValue) (before mid : HostS
         halts = λ f. tt;
         stops = tt;
         full = tt;
+        readable = stays_then sound does.quiet.keeps does.rests does.readable (stays_said at_mid says);
         leaves = all_leaves says;
         rests = λ h rests. rests_after_say (still_honest does.quiet.keeps h) (still_faithful does.quiet.keeps (sound.faithful h)) says (does.rests h rests);
       }
@@ -155,10 +160,11 @@ module _ (number : ℕ) (line : Line) (old new : StoreValue) (before mid : HostS
               doubt = does.doubt;
               count = tried.count;
               said = tried.said ∙ ap (λ l. l ++ take tried.count reply) (does.quiet.said f) ∙ ap (λ l. before.said ++ take tried.count l) reply_is;
-              kept = subst (λ i. IsKept i (tables_after line old.tables)) (sym (says.same at).0) (after_kept f);
+              says = subst (λ i. SaysTables i (tables_after line old.tables)) (sym (says.same at).0) (after_says f);
             }));
         stops = faulted-then does.quiet.keeps says.counted.1;
         full = λ is. absurd (no_fault_full fault is);
+        readable = stays_then sound does.quiet.keeps does.rests does.readable (stays_said at_mid says);
         leaves = all_leaves says;
         rests = λ h rests. tt;
       }

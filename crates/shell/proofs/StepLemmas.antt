@@ -11,7 +11,7 @@ use Rattle.script_source.specs.Script.{lines_of, text_of}
 use Rattle.script_source.specs.Hearing.{Listens, TakesLine}
 use Rattle.script_words.specs.Lines.{line_of}
 use Rattle.table_store.specs.Tables.{Tables}
-use Rattle.table_store.specs.Kept.{IsKept}
+use Rattle.table_store.specs.Kept.{SaysTables}
 use Rattle.table_store.specs.Room.{Station}
 use Rattle.table_store.specs.StoreValue.{StoreValue, station_of}
 use Rattle.plain_model.specs.declared.operation.Entry.{Entry}
@@ -22,6 +22,8 @@ use Rattle.shell.specs.LineServed.{IsSure, IsLinePicture, ServesLine}
 use Rattle.shell.specs.Walk.{Steps, Walks}
 use Rattle.shell.specs.ScriptServed.{tables_at, replies_at}
 use Rattle.shell.specs.Serve.{IsScriptPicture, HasServed}
+use Rattle.shell.specs.Readable.{StaysReadable}
+use Rattle.shell.proofs.ReadableLemmas.{stays_same, stays_then}
 use Rattle.shell.proofs.WalkLemmas.{walks-tables}
 use Rattle.shell.proofs.ScriptLemmas.{tables_more, replies_more, entries_more, walks_more, text_here, within_more, at_line}
 
@@ -29,7 +31,7 @@ use Rattle.shell.proofs.ScriptLemmas.{tables_more, replies_more, entries_more, w
 pub sure_after : {store : StoreValue} {now mid : HostState} → Listens now mid → IsSure store now → IsSure store mid
 sure_after {store} {now} {mid} listens sure = record {
   stored = λ f. let at = was_faithful listens.keeps f in subst (λ i. IsStored store.nodes i) (sym (listens.same at).0) (sure.stored at);
-  kept = λ f. let at = was_faithful listens.keeps f in subst (λ i. IsKept i store.tables) (sym (listens.same at).0) (sure.kept at);
+  says = λ f. let at = was_faithful listens.keeps f in subst (λ i. SaysTables i store.tables) (sym (listens.same at).0) (sure.says at);
 }
 
 module _ {first : HostState} {start : Station} {n : ℕ} {pending : List ℕ} {store : StoreValue} {now : HostState} (sound : IsSound first) (sound_now : IsSound now) (served : HasServed first start n pending store now) where
@@ -47,7 +49,7 @@ module _ {first : HostState} {start : Station} {n : ℕ} {pending : List ℕ} {s
       record {
         done = n;
         within = omega arith;
-        kept = subst (λ t. IsKept now.files t) (tables_are f) (served.sure.kept (still_faithful served.keeps f));
+        says = subst (λ t. SaysTables now.files t) (tables_are f) (served.sure.says (still_faithful served.keeps f));
         quiet = omega (arith, ap length (served.said f), length-append first.said (replies_at n (texts_of first.script) tables));
       }
 
@@ -57,6 +59,9 @@ module _ {first : HostState} {start : Station} {n : ℕ} {pending : List ℕ} {s
 
   pub heard_rests : {mid : HostState} → Listens now mid → IsTrue first.is_honest → AllSettled first → AllSettled mid
   heard_rests listens h rests = rests_after_same (listens.moves (still_honest served.keeps h)) (listens.same (still_faithful served.keeps (sound.faithful h))).0 (served.rests h rests)
+
+  pub heard_readable : {mid : HostState} → Listens now mid → StaysReadable first mid
+  heard_readable listens = stays_then sound served.keeps served.rests served.readable (stays_same sound_now (λ f. (listens.same f).0) listens.moves)
 
   -- the line that was heard is the next of the script
   module _ {mid : HostState} {text rest : List ℕ} (listens : Listens now mid) (sound_mid : IsSound mid) (takes : IsTrue now.is_faithful → TakesLine (pending ++ now.script) text rest) where
@@ -112,13 +117,16 @@ module _ {first : HostState} {start : Station} {n : ℕ} {pending : List ℕ} {s
           let t = takes (still_faithful served.keeps f) in
           within_more (lines_of first.script) n t.line (lines_of rest) (here f) tables (served.within f) t.short few
 
+      pub line_readable : StaysReadable first later
+      line_readable = stays_then sound (keeps-then served.keeps listens.keeps) (λ h rests. heard_rests listens h rests) (heard_readable listens) serves.readable
+
       -- what each crash leaves, up to and with this line
       pub line_leaves : IsTrue first.is_honest → AllSettled first → LeavesOnly (IsScriptPicture tables (texts_of first.script) (n + 1) first.said) first later
       line_leaves h rests =
           leaves_then (leaves_weaker (heard_leaves listens h rests) one_more) (leaves_weaker (serves.leaves (still_honest listens.keeps (still_honest served.keeps h)) (heard_rests listens h rests)) shown)
         where
           one_more : (p : Picture) → IsScriptPicture tables (texts_of first.script) n first.said p → IsScriptPicture tables (texts_of first.script) (n + 1) first.said p
-          one_more p is = record { done = is.done; within = omega (arith, is.within); kept = is.kept; quiet = is.quiet }
+          one_more p is = record { done = is.done; within = omega (arith, is.within); says = is.says; quiet = is.quiet }
 
           shown : (p : Picture) → IsLinePicture number (line_of text) store.tables mid.said p → IsScriptPicture tables (texts_of first.script) (n + 1) first.said p
           shown p (inl before) =
@@ -126,7 +134,7 @@ module _ {first : HostState} {start : Station} {n : ℕ} {pending : List ℕ} {s
               record {
                 done = n;
                 within = omega arith;
-                kept = subst (λ t. IsKept p.image t) (tables_are f) before.kept;
+                says = subst (λ t. SaysTables p.image t) (tables_are f) before.says;
                 quiet = omega (arith, ap length (before.said_is ∙ mid_said f), length-append first.said (replies_at n (texts_of first.script) tables));
               }
           shown p (inr behind) =
@@ -136,7 +144,7 @@ module _ {first : HostState} {start : Station} {n : ℕ} {pending : List ℕ} {s
               record {
                 done = n + 1;
                 within = omega arith;
-                kept = subst (λ t. IsKept p.image t) (tables_next f) behind.kept;
+                says = subst (λ t. SaysTables p.image t) (tables_next f) behind.says;
                 quiet = omega (arith, all, ap length (behind.said_is ∙ ap (λ l. l ++ take behind.count reply) (mid_said f)), length-append (first.said ++ replies_at n (texts_of first.script) tables) (take behind.count reply), length-append first.said (replies_at n (texts_of first.script) tables), length-take behind.count reply);
               }
 
@@ -159,6 +167,7 @@ module _ {first : HostState} {start : Station} {n : ℕ} {pending : List ℕ} {s
         let reply = reply_to number (line_of text) store.tables in
         serves.said (still_faithful listens.keeps (still_faithful served.keeps f)) ∙ ap (λ l. l ++ reply) ((listens.same (still_faithful served.keeps f)).1 ∙ served.said f)
         ∙ append_assoc first.said (replies_at n (texts_of first.script) tables) reply ∙ ap (λ l. first.said ++ l) (replies_next listens sound_mid takes number number_is few serves f);
+    readable = line_readable listens sound_mid takes number number_is few serves;
     leaves = line_leaves listens sound_mid takes number number_is few serves;
     rests = λ h rests. serves.rests (still_honest listens.keeps (still_honest served.keeps h)) (heard_rests listens h rests);
   }

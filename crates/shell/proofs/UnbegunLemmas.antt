@@ -10,10 +10,11 @@ use Rattle.host_model.specs.declared.fault.Stop.TheVariants.{Host, Damaged, Full
 use Rattle.host_model.proofs.LeavesLemmas.{leaves_start, leaves_weaker, same_leave}
 use Rattle.table_store.specs.Tables.{Tables, no_tables, plain_of}
 use Rattle.table_store.specs.Kept.{IsKept}
-use Rattle.table_store.specs.declared.stop.StoreStop.{StoreStop}
-use Rattle.table_store.specs.declared.stop.StoreStop.TheVariants.{NotInit, NotBlank, Stopped}
+use Rattle.ground_store.specs.declared.stop.GroundStop.{GroundStop}
+use Rattle.ground_store.specs.declared.stop.GroundStop.TheVariants.{NotInit, NotBlank, Stop as Stopped}
 use Rattle.shell.specs.Ending.{unbegun, stopped_with, without_store}
-use Rattle.shell.specs.Running.{HasNoStore, IsBegunOrNot}
+use Rattle.shell.specs.Opening.{IsBegunOrNot}
+use Rattle.shell.specs.Running.{HasNoStore}
 use Rattle.shell.specs.Headline.{BeginsWith, MayStand, Headline, StandsNow, MayStandNow, MeetsPlain}
 use Rattle.shell.specs.declared.outcomes.Outcome.{Outcome}
 use Rattle.shell.proofs.StandsLemmas.{stands_first, fronts_first, may_stand_first}
@@ -34,7 +35,7 @@ stopped_unbegun (Damaged name) = record { status = 9; damaged = Some name; is = 
 stopped_unbegun Full = record { status = 10; damaged = None; is = refl; failed = omega arith }
 stopped_unbegun NoMemory = record { status = 7; damaged = None; is = refl; failed = omega arith }
 
-pub without_unbegun : (stop : StoreStop) → IsUnbegunOutcome (without_store stop)
+pub without_unbegun : (stop : GroundStop) → IsUnbegunOutcome (without_store stop)
 without_unbegun NotInit = record { status = 8; damaged = None; is = refl; failed = omega arith }
 without_unbegun NotBlank = record { status = 8; damaged = None; is = refl; failed = omega arith }
 without_unbegun (Stopped stop) = stopped_unbegun stop

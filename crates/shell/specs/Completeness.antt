@@ -8,7 +8,7 @@ use Rattle.table_store.specs.Tables.{Tables}
 use Rattle.table_store.specs.Room.{Station}
 use Rattle.shell.specs.Script.{texts_of, AreWithin}
 use Rattle.shell.specs.Walk.{IsFullAt}
-use Rattle.shell.specs.Running.{Begins}
+use Rattle.shell.specs.Opening.{Begins}
 use Rattle.shell.specs.Headline.{BeginsWith}
 
 -- The host is faithful and met no fault, the image is kept or with --init unborn, no line is too long or one too many, and none lacks room.

@@ -3,8 +3,8 @@ use Rattle.std.specs.Prelude.{ℕ, List, [], Option, Some, None, Result, Ok, Err
 use Rattle.host_model.specs.declared.fault.HostFault.TheVariants.{Disk, Source, Sink, Memory}
 use Rattle.host_model.specs.declared.fault.Stop.{Stop}
 use Rattle.host_model.specs.declared.fault.Stop.TheVariants.{Host, Damaged, Full, NoMemory}
-use Rattle.table_store.specs.declared.stop.StoreStop.{StoreStop}
-use Rattle.table_store.specs.declared.stop.StoreStop.TheVariants.{NotInit, NotBlank, Stopped}
+use Rattle.ground_store.specs.declared.stop.GroundStop.{GroundStop}
+use Rattle.ground_store.specs.declared.stop.GroundStop.TheVariants.{NotInit, NotBlank, Stop as Stopped}
 use Rattle.shell.specs.declared.outcomes.Outcome.{Outcome}
 use Rattle.shell.specs.declared.ending.Ending.{Ending}
 use Rattle.shell.specs.declared.ending.Ending.TheVariants.{ScriptEnd, NoLine}
@@ -36,7 +36,7 @@ abbrev pub stopped_with : Stop → Outcome
 stopped_with stop = unbegun (status_for (Err stop)) (damaged_for (Err stop))
 
 -- there is no store
-abbrev pub without_store : StoreStop → Outcome
+abbrev pub without_store : GroundStop → Outcome
 without_store NotInit = unbegun 8 None
 without_store NotBlank = unbegun 8 None
 without_store (Stopped stop) = stopped_with stop

@@ -13,7 +13,8 @@ use Rattle.script_words.specs.declared.reply.Answer.TheVariants.{Rows}
 use Rattle.plain_model.specs.State.{PlainState}
 use Rattle.plain_model.specs.History.{after}
 use Rattle.table_store.specs.Tables.{Tables, no_tables, plain_of, plain_texts}
-use Rattle.table_store.specs.Kept.{IsKept, IsUnbornDisk, StandsFor}
+use Rattle.store_layout.specs.NewStore.{IsUnbornDisk}
+use Rattle.table_store.specs.Kept.{IsKept, StandsFor}
 use Rattle.plain_model.specs.declared.operation.Entry.{Entry}
 use Rattle.shell.specs.Script.{texts_of, AreWithin}
 use Rattle.shell.specs.Serving.{reply_to}

@@ -1,11 +1,13 @@
 pub mod Script
 pub mod Serving
 pub mod Walk
+pub mod Readable
 pub mod LineServed
 pub mod ScriptServed
 pub mod Crash
 pub mod Serve
 pub mod Ending
+pub mod Opening
 pub mod Running
 pub mod Headline
 pub mod Completeness

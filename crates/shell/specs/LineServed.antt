@@ -12,23 +12,24 @@ use Rattle.script_words.specs.declared.line.Line.{Line}
 use Rattle.script_words.specs.declared.reply.Answer.{Answer}
 use Rattle.table_store.specs.Tables.{Tables}
 use Rattle.table_store.specs.Room.{Station}
-use Rattle.table_store.specs.Kept.{IsKept}
+use Rattle.table_store.specs.Kept.{SaysTables}
 use Rattle.table_store.specs.StoreValue.{StoreValue, IsUnasked, station_of}
 use Rattle.shell.specs.Serving.{answer_to, tables_after, entries_of, reply_to}
 use Rattle.shell.specs.Walk.{Steps, LacksRoom}
+use Rattle.shell.specs.Readable.{StaysReadable}
 
--- over a faithful host the image that is read is the store's, and has just its tables
+-- over a faithful host the image that is read is the store's, and says just its tables
 pub record IsSure (store : StoreValue) (state : HostState) : Type 0 where
   pub stored : IsTrue state.is_faithful → IsStored store.nodes state.files
-  pub kept : IsTrue state.is_faithful → IsKept state.files store.tables
+  pub says : IsTrue state.is_faithful → SaysTables state.files store.tables
 
--- A crash while the line is served leaves what was kept before it and said before it, or what is kept after it and a front of its reply.
+-- A crash while the line is served leaves the tables before it and what was said before it, or the tables after it and a front of its reply.
 pub record IsBefore (tables : Tables) (said : List ℕ) (p : Picture) : Type 0 where
-  pub kept : IsKept p.image tables
+  pub says : SaysTables p.image tables
   pub said_is : p.said ≡ said
 
 pub record IsBehind (tables : Tables) (said reply : List ℕ) (p : Picture) : Type 0 where
-  pub kept : IsKept p.image tables
+  pub says : SaysTables p.image tables
   pub count : ℕ
   pub said_is : p.said ≡ said ++ take count reply
 
@@ -89,7 +90,7 @@ pub record DidNothing (stop : Stop) (line : Line) (old new : StoreValue) (before
   pub doubt : new.doubt ≡ []
   pub same : IsUnchanged before now
   pub said : now.said ≡ before.said
-  pub kept : IsKept now.files old.tables
+  pub says : SaysTables now.files old.tables
   pub leaves : IsTrue before.is_honest → AllSettled before → LeavesOnly (IsBefore old.tables before.said) before now
 
 -- its commit may have been made
@@ -98,7 +99,7 @@ pub record IsInDoubt (stop : Stop) (number : ℕ) (line : Line) (old new : Store
   pub history : new.history ≡ old.history
   pub doubt : new.doubt ≡ entries_of number line old.tables
   pub said : now.said ≡ before.said
-  pub kept : IsKept now.files old.tables ⊎ IsKept now.files (tables_after line old.tables)
+  pub says : SaysTables now.files old.tables ⊎ SaysTables now.files (tables_after line old.tables)
 
 -- it did its work, and its reply was not said whole
 pub record IsUnreported (stop : Stop) (number : ℕ) (line : Line) (old new : StoreValue) (before now : HostState) : Type 0 where
@@ -108,7 +109,7 @@ pub record IsUnreported (stop : Stop) (number : ℕ) (line : Line) (old new : St
   pub doubt : new.doubt ≡ []
   pub count : ℕ
   pub said : now.said ≡ before.said ++ take count (reply_to number line old.tables)
-  pub kept : IsKept now.files (tables_after line old.tables)
+  pub says : SaysTables now.files (tables_after line old.tables)
 
 abbrev pub LineHalts : Stop → ℕ → Line → StoreValue → StoreValue → HostState → HostState → Type 0
 LineHalts stop number line old new before now = DidNothing stop line old new before now ⊎ IsInDoubt stop number line old new before now ⊎ IsUnreported stop number line old new before now
@@ -128,7 +129,8 @@ pub record DoesLine (number : ℕ) (line : Line) (result : Result (Option Answer
   pub stops : IfErr result (λ stop. StopCounts stop before now)
   -- for want of room or memory nothing is asked of any host
   pub unasked : IfErr result (λ stop. IsUnasked stop → IsUnchanged before now)
-  pub leaves : IsTrue before.is_honest → AllSettled before → LeavesOnly (Shows (λ image. IsKept image old.tables ⊎ IsKept image (tables_after line old.tables)) before.said) before now
+  pub readable : StaysReadable before now
+  pub leaves : IsTrue before.is_honest → AllSettled before → LeavesOnly (Shows (λ image. SaysTables image old.tables ⊎ SaysTables image (tables_after line old.tables)) before.said) before now
   pub rests : IsTrue before.is_honest → AllSettled before → OnOk result (AllSettled now)
 
 pub record ServesLine (number : ℕ) (line : Line) {T : Type 0} (result : Result T Stop) (old new : StoreValue) (before now : HostState) : Type 0 where
@@ -144,5 +146,6 @@ pub record ServesLine (number : ℕ) (line : Line) {T : Type 0} (result : Result
   pub stops : IfErr result (λ stop. StopCounts stop before now)
   -- a line that lacks room asks nothing of any host
   pub full : IfErr result (λ stop. stop ≡ Full → IsUnchanged before now)
+  pub readable : StaysReadable before now
   pub leaves : IsTrue before.is_honest → AllSettled before → LeavesOnly (IsLinePicture number line old.tables before.said) before now
   pub rests : IsTrue before.is_honest → AllSettled before → OnOk result (AllSettled now)

@@ -1,37 +1,25 @@
 -- What a run does, by how far it came.
-use Rattle.std.specs.Prelude.{◌≡◌, ◌⊎◌, ℕ, ◌++◌, Bool, true, false, List, Result, IfOk, IfErr, OnOk, IsTrue, option_to_list}
-use Rattle.host_model.specs.Picture.{Image, Picture}
+use Rattle.std.specs.Prelude.{◌≡◌, ◌⊎◌, ℕ, ◌++◌, Bool, true, false, List, Result, IfErr, OnOk, IsTrue, option_to_list}
+use Rattle.host_model.specs.Picture.{Picture}
 use Rattle.host_model.specs.State.{HostState}
-use Rattle.host_model.specs.Calls.{Keeps, IsQuiet, Looks}
-use Rattle.host_model.specs.Leaves.{LeavesOnly, Shows, AllSettled}
+use Rattle.host_model.specs.Calls.{Keeps}
+use Rattle.host_model.specs.Leaves.{LeavesOnly, AllSettled}
 use Rattle.host_model.specs.declared.fault.Stop.{Stop}
 use Rattle.host_model.specs.declared.fault.Stop.TheVariants.{NoMemory}
-use Rattle.node_store.specs.Image.{IsStored}
-use Rattle.table_store.specs.Tables.{Tables, no_tables}
-use Rattle.table_store.specs.Room.{Station, IsNewStation}
-use Rattle.table_store.specs.Layout.{nodes_name}
-use Rattle.table_store.specs.Kept.{IsKept, IsUnbornDisk}
-use Rattle.table_store.specs.StoreValue.{StoreValue, IsFresh, InitStops, OpenStops, station_of}
-use Rattle.table_store.specs.declared.stop.StoreStop.{StoreStop}
+use Rattle.store_layout.specs.NewStore.{IsUnbornDisk}
+use Rattle.ground_store.specs.declared.stop.GroundStop.{GroundStop}
+use Rattle.table_store.specs.Tables.{Tables}
+use Rattle.table_store.specs.Room.{Station}
 use Rattle.script_source.specs.Script.{lines_of}
 use Rattle.shell.specs.Script.{texts_of, AreWithin}
-use Rattle.shell.specs.LineServed.{IsSure, StopCounts}
+use Rattle.shell.specs.LineServed.{StopCounts}
 use Rattle.shell.specs.ScriptServed.{entries_at, HasEnded}
 use Rattle.shell.specs.Crash.{IsLastPicture}
+use Rattle.shell.specs.Readable.{LeavesReadable}
+use Rattle.shell.specs.Opening.{Begins, StoreStops, LeavesDisk}
 use Rattle.shell.specs.Ending.{status_for, damaged_for, without_store, stopped_with}
 use Rattle.shell.specs.declared.outcomes.Outcome.{Outcome}
 use Rattle.shell.specs.declared.ending.Ending.{Ending}
-
--- the store that an image has
-pub record IsStoreOf (image : Image) (station : Station) : Type 0 where
-  pub stored : IsStored station.nodes image
-  pub file : station.nodes.name ≡ nodes_name
-  pub kept : IsKept image station.tables
-
--- the store with which a run begins: that of the image, or with --init a new one on an unborn disk
-abbrev pub Begins : Bool → Image → Station → Type 0
-Begins false image start = IsStoreOf image start
-Begins true image start = IsUnbornDisk image × IsNewStation start
 
 -- The script was served over this store, and the status tells how that ended.
 pub record ServesScript (first : HostState) (start : Station) (outcome : Outcome) (now : HostState) : Type 0 where
@@ -66,34 +54,11 @@ pub record HasStore (init : Bool) (first : HostState) (outcome : Outcome) (now :
   pub begins : IsTrue first.is_faithful → Begins init first.files start
   pub serves : ServesScript first start outcome now
   pub crash : IsTrue first.is_honest → AllSettled first → LeavesLines init first start.tables outcome now
-
-abbrev pub StoreStops : Bool → StoreStop → HostState → HostState → Type 0
-StoreStops false stop first now = OpenStops stop first now
-StoreStops true stop first now = InitStops stop first now
-
--- an unborn disk stays so, or has a new store
-abbrev pub IsBegunOrNot : Image → Type 0
-IsBegunOrNot image = IsUnbornDisk image ⊎ IsKept image no_tables
-
--- What is left before a script is served: all as it was, but for what --init has made of an unborn disk.
-pub record LeavesDisk (init : Bool) (first now : HostState) : Type 0 where
-  pub quiet : IsQuiet first now
-  pub looks : (init ≡ false) → Looks first now
-  pub tried : (init ≡ true) → IsTrue first.is_faithful → IsUnbornDisk first.files → IsBegunOrNot now.files
-  pub leaves : (init ≡ true) → IsTrue first.is_honest → AllSettled first → IsUnbornDisk first.files → LeavesOnly (Shows IsBegunOrNot first.said) first now
-
--- A store is opened, or made.
-pub record OpensStore (init : Bool) (result : Result StoreValue StoreStop) (old new : HostState) : Type 0 where
-  pub fresh : IfOk result IsFresh
-  pub sure : IfOk result (λ store. IsSure store new)
-  pub begins : IsTrue old.is_faithful → IfOk result (λ store. Begins init old.files (station_of store))
-  pub stops : IfErr result (λ stop. StoreStops init stop old new)
-  pub left : LeavesDisk init old new
-  pub rests : IsTrue old.is_honest → AllSettled old → OnOk result (AllSettled new)
+  pub readable : LeavesReadable init first now
 
 -- no store was opened or made, nothing was said, and no line was heard
 pub record HasNoStore (init : Bool) (first : HostState) (outcome : Outcome) (now : HostState) : Type 0 where
-  pub stop : StoreStop
+  pub stop : GroundStop
   pub outcome_is : outcome ≡ without_store stop
   pub stops : StoreStops init stop first now
   pub left : LeavesDisk init first now

@@ -9,7 +9,7 @@ use Rattle.host_model.specs.declared.fault.Stop.TheVariants.{Host, Damaged, Full
 use Rattle.script_source.specs.Script.{lines_of}
 use Rattle.table_store.specs.Tables.{Tables}
 use Rattle.table_store.specs.Room.{Station}
-use Rattle.table_store.specs.Kept.{IsKept}
+use Rattle.table_store.specs.Kept.{SaysTables}
 use Rattle.plain_model.specs.declared.operation.Entry.{Entry}
 use Rattle.shell.specs.Serving.{tables_over, replies_over, entries_over, entries_of, reply_to}
 use Rattle.shell.specs.Script.{texts_of, AreWithin, IsOver}
@@ -34,7 +34,7 @@ pub record HasDone (first : HostState) (start : Station) (count : ℕ) (past : L
   pub station : Station
   pub walks : Walks (take count (texts_of first.script)) start station
   pub history : past ≡ entries_at count (texts_of first.script) start.tables
-  pub kept : IsKept now.files (tables_at count (texts_of first.script) start.tables)
+  pub says : SaysTables now.files (tables_at count (texts_of first.script) start.tables)
 
 -- the replies to so many lines were said, and no more
 abbrev pub HasReplied : HostState → Tables → ℕ → HostState → Type 0
@@ -113,7 +113,7 @@ pub record StopsInside (stop : Stop) (first : HostState) (start : Station) (line
   pub last : LastLine first lines
   pub history : past ≡ entries_at last.before (texts_of first.script) start.tables
   pub doubt : maybe ≡ entries_of lines (line_of last.text) (tables_at last.before (texts_of first.script) start.tables)
-  pub kept : IsKept now.files (tables_at last.before (texts_of first.script) start.tables) ⊎ IsKept now.files (tables_at lines (texts_of first.script) start.tables)
+  pub says : SaysTables now.files (tables_at last.before (texts_of first.script) start.tables) ⊎ SaysTables now.files (tables_at lines (texts_of first.script) start.tables)
   pub said : HasReplied first start.tables last.before now
 
 -- it did its work, and its reply wasn't said whole

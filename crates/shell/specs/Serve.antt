@@ -9,20 +9,21 @@ use Rattle.host_model.specs.declared.fault.Stop.{Stop}
 use Rattle.script_source.specs.Script.{lines_of}
 use Rattle.table_store.specs.Tables.{Tables}
 use Rattle.table_store.specs.Room.{Station}
-use Rattle.table_store.specs.Kept.{IsKept}
+use Rattle.table_store.specs.Kept.{SaysTables}
 use Rattle.table_store.specs.StoreValue.{StoreValue, station_of}
 use Rattle.shell.specs.Script.{texts_of, AreWithin}
 use Rattle.shell.specs.Walk.{Walks}
+use Rattle.shell.specs.Readable.{StaysReadable}
 use Rattle.shell.specs.LineServed.{IsSure, IsReplyStop, StopCounts}
 use Rattle.shell.specs.ScriptServed.{tables_at, replies_at, entries_at, HasReplied}
 use Rattle.shell.specs.declared.ending.Ending.{Ending}
 use Rattle.shell.specs.declared.ending.Ending.TheVariants.{NoLine}
 
--- The picture is kept with the tables after some of so many lines, and no more was said than the replies to these.
+-- The picture says the tables after some of so many lines, and no more was said than the replies to these.
 pub record IsScriptPicture (tables : Tables) (texts : List (List ℕ)) (count : ℕ) (said : List ℕ) (p : Picture) : Type 0 where
   pub done : ℕ
   pub within : done ≤ count
-  pub kept : IsKept p.image (tables_at done texts tables)
+  pub says : SaysTables p.image (tables_at done texts tables)
   pub quiet : length p.said ≤ length said + length (replies_at done texts tables)
 
 -- so many lines were served to their ends, and no others
@@ -36,6 +37,7 @@ pub record HasServed (first : HostState) (start : Station) (count : ℕ) (pendin
   pub walks : IsTrue first.is_faithful → Walks (take count (texts_of first.script)) start (station_of store)
   pub history : IsTrue first.is_faithful → store.history ≡ entries_at count (texts_of first.script) start.tables
   pub said : IsTrue first.is_faithful → HasReplied first start.tables count now
+  pub readable : StaysReadable first now
   pub leaves : IsTrue first.is_honest → AllSettled first → LeavesOnly (IsScriptPicture start.tables (texts_of first.script) count first.said) first now
   pub rests : IsTrue first.is_honest → AllSettled first → AllSettled now
 

@@ -3,11 +3,11 @@ ghost use Rattle.std.specs.Prelude.{◌≡◌, None, Err};
 ghost use Rattle.shell.specs.Ending.{status_for, damaged_for, unbegun, stopped_with, without_store};
 
 use crate::outcomes::Outcome;
+use ground_store::GroundStop;
 use host_model::{HostFault, Name, Stop};
 use plain_model::{Entries, Entry};
 use row_keys::ListOf;
 use std::alloc::Global;
-use table_store::StoreStop;
 
 /// The status where there is no store, or one where a new one was to be made.
 const NO_STORE: u8 = 8;
@@ -77,11 +77,11 @@ pub fn stopped(alloc: Global, stop: Stop) -> Outcome
 }
 
 /// The outcome where there is no store to open, or one where a new one was to be made.
-pub fn without_store(alloc: Global, stop: StoreStop) -> Outcome
+pub fn without_store(alloc: Global, stop: GroundStop) -> Outcome
     ensures { result ≡ without_store stop }
 {
     match stop {
-        StoreStop::NotInit | StoreStop::NotBlank => unbegun(alloc, NO_STORE),
-        StoreStop::Stopped(stop) => stopped(alloc, stop),
+        GroundStop::NotInit | GroundStop::NotBlank => unbegun(alloc, NO_STORE),
+        GroundStop::Stop(stop) => stopped(alloc, stop),
     }
 }

@@ -2,6 +2,7 @@
 #![tactic(auto)]
 
 mod ending;
+mod opening;
 mod outcomes;
 mod running;
 mod serving;

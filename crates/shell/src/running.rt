@@ -5,7 +5,8 @@ ghost use Rattle.script_words.specs.declared.command_line.StoreForm.{StoreForm};
 ghost use Rattle.table_store.specs.StoreValue.{IsFresh, station_of};
 ghost use Rattle.table_store.specs.Tables.{Tables};
 ghost use Rattle.shell.specs.Ending.{unbegun};
-ghost use Rattle.shell.specs.Running.{OpensStore, ServesScript, RunsStore, HasNoMemory};
+ghost use Rattle.shell.specs.Readable.{StaysReadable};
+ghost use Rattle.shell.specs.Running.{ServesScript, RunsStore, HasNoMemory};
 ghost use Rattle.host_model.specs.Calls.{Keeps};
 ghost use Rattle.host_model.specs.Leaves.{AllSettled};
 ghost use Rattle.shell.specs.LineServed.{IsSure, StopCounts};
@@ -16,6 +17,7 @@ ghost use Rattle.shell.specs.Headline.{BeginsWith, Headline, MeetsPlain};
 ghost use Rattle.shell.specs.Completeness.{IsUnhindered, IsDoneOrShort};
 
 use crate::ending::{Ending, ended, stopped, unbegun, without_store};
+use crate::opening::open_or_make;
 use crate::outcomes::Outcome;
 use crate::serving::serve_line;
 use host_model::{Host, Stop};
@@ -23,7 +25,7 @@ use row_keys::{Octets, Words};
 use script_source::{Heard, Script};
 use script_words::{WordsStop, read_words, write_no_line};
 use std::alloc::{AllocError, Global};
-use table_store::{StoreStop, TableStore};
+use table_store::TableStore;
 
 /// The status where the words are of no form.
 const USAGE: u8 = 2;
@@ -44,6 +46,11 @@ pub fn dir_of(alloc: Global, words: &Words) -> Result<Option<Octets>, AllocError
 
 /// Reads the words, opens the store or makes it, and serves the script, over a host that it hands back.
 /// Where a call of the host fails, it is the last one.
+///
+/// With `--init` a blank or unborn directory gets the two files of a new store; any other is left as it is, with status 8.
+/// Without it `nodes` alone is read, and nothing is written before the first line. A crash inside leaves a disk on which a
+/// run may begin: kept, with the tables of some of the lines, or with `--init` blank or unborn. Opening takes time and memory
+/// with the size of `nodes`, and a line that makes a table two syncs. This project's own.
 pub fn run<H: Host>(alloc: Global, words: &Words, mut host: H) -> (Outcome, H)
     ensures usage { IsUsage words.now → (result.0 ≡ unbegun 2 None) × (result.1 ≡ host) }
     ensures runs { (form : StoreForm) → IsStoreForm words.now form → RunsStore form.init (H.state host) result.0 (H.state result.1) ⊎ HasNoMemory result.0 host result.1 }
@@ -59,21 +66,10 @@ pub fn run<H: Host>(alloc: Global, words: &Words, mut host: H) -> (Outcome, H)
     (outcome, host)
 }
 
-/// Opens the store that is there, or makes a new one.
-fn open_store<H: Host>(alloc: Global, init: bool, host: &mut H) -> Result<TableStore, StoreStop>
-    ensures { OpensStore init result (H.state host.old) (H.state host.new) }
-{
-    if init {
-        TableStore::init(alloc, host)
-    } else {
-        TableStore::open(alloc, host)
-    }
-}
-
 fn run_store<H: Host>(alloc: Global, init: bool, host: &mut H) -> Outcome
     ensures { RunsStore init (H.state host.old) result (H.state host.new) }
 {
-    match open_store(alloc, init, host) {
+    match open_or_make(alloc, init, host) {
         Ok(store) => run_script(alloc, store, host),
         Err(stop) => without_store(alloc, stop),
     }
@@ -83,6 +79,7 @@ fn run_script<H: Host>(alloc: Global, mut store: TableStore, host: &mut H) -> Ou
     requires fresh { IsFresh store }
     requires sure { IsSure store (H.state host.old) }
     ensures serves { ServesScript (H.state host.old) (station_of store) result (H.state host.new) }
+    ensures readable { StaysReadable (H.state host.old) (H.state host.new) }
     ensures crash { IsTrue (H.state host.old).is_honest → AllSettled (H.state host.old) → LeavesFronts (H.state host.old) store.tables result.history (option_to_list result.doubt) (H.state host.new) }
 {
     let mut lines = 0;
@@ -106,6 +103,7 @@ fn serve<H: Host>(
     ensures keeps { Keeps (H.state host.old) (H.state host.new) }
     ensures ended { IsTrue (H.state host.old).is_faithful → HasEnded result (H.state host.old) (station_of store.old) lines.new store.new.history store.new.doubt (H.state host.new) }
     ensures stops { IfErr result (λ stop. StopCounts stop (H.state host.old) (H.state host.new)) }
+    ensures readable { StaysReadable (H.state host.old) (H.state host.new) }
     ensures crash { IsTrue (H.state host.old).is_honest → AllSettled (H.state host.old) → LeavesFronts (H.state host.old) store.old.tables store.new.history store.new.doubt (H.state host.new) }
     ensures rests { IsTrue (H.state host.old).is_honest → AllSettled (H.state host.old) → OnOk result (AllSettled (H.state host.new)) }
 {

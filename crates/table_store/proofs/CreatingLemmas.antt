@@ -10,34 +10,39 @@ use Rattle.host_model.specs.declared.fault.Stop.{Stop}
 use Rattle.host_model.specs.declared.fault.Stop.TheVariants.{Host, Damaged, Full, NoMemory}
 use Rattle.row_keys.specs.Forms.{IsWordName}
 use Rattle.node_store.specs.declared.changes.NodeOp.{NodeOp}
-use Rattle.node_store.specs.Nodes.{multi_applied}
+use Rattle.node_store.specs.Nodes.{Nodes, multi_applied}
 use Rattle.node_store.specs.Value.{StoreValue as NodeStoreValue}
 use Rattle.node_store.specs.Answers.{IsFull}
 use Rattle.node_store.specs.Image.{IsNodeFile, HasNodes, IsStored}
-use Rattle.node_store.specs.Steps.{MayGive, Gives, HasApplied}
-use Rattle.node_store.proofs.ImageLemmas.{stored_has, others_dont_count}
+use Rattle.node_store.specs.Steps.{MayGive, Gives, HasApplied, OthersStay}
+use Rattle.node_store.proofs.ImageLemmas.{one_nodes, stored_has, others_dont_count}
+use Rattle.store_layout.specs.Names.{nodes_name}
+use Rattle.store_meaning.specs.NodesAside.{AgreeAside}
+use Rattle.store_meaning.specs.Readable.{IsReadable}
+use Rattle.store_meaning.proofs.AsideLemmas.{readable_aside}
 use Rattle.table_store.specs.Numbers.{base36}
 use Rattle.table_store.specs.Tables.{Tables, is_taken, created}
-use Rattle.table_store.specs.Layout.{nodes_name, create_ops}
+use Rattle.table_store.specs.Layout.{create_ops}
 use Rattle.table_store.specs.Reading.{IsReading}
-use Rattle.table_store.specs.Kept.{IsKept}
+use Rattle.table_store.specs.Kept.{SaysTables}
 use Rattle.table_store.specs.StoreValue.{StoreValue, MayCreate, Creates, CreateStops, entry_of}
 use Rattle.table_store.specs.Creating.{CommitStops, IsUnnamed}
 use Rattle.plain_model.specs.declared.operation.Entry.{Entry}
 use Rattle.table_store.proofs.TablesLemmas.{reading_created}
+use Rattle.table_store.proofs.AsideLemmas.{aside_same, aside_created}
 use Rattle.table_store.proofs.AltersMore.{alters_nothing, alters_weaker, alters_failed}
 
--- the image of a store whose nodes say these tables is kept with them
-pub kept_stored : (store : NodeStoreValue) (tables : Tables) (image : Image) → store.name ≡ nodes_name → IsReading store.nodes tables → IsStored store image → IsKept image tables
-kept_stored store tables image named reading stored = record {
+-- the image of a store whose nodes say these tables says them
+pub says_stored : (store : NodeStoreValue) (tables : Tables) (image : Image) → store.name ≡ nodes_name → IsReading store.nodes tables → IsStored store image → SaysTables image tables
+says_stored store tables image named reading stored = record {
   nodes = store.nodes;
   has = subst (λ n. HasNodes n image store.nodes) named (stored_has store image stored);
   reading = reading;
 }
 
--- an image that didn't change is kept as before
+-- an image that didn't change says what it said
 pub may_create_nothing : (name : List ℕ) (tables : Tables) (image : Image) → MayCreate name tables image image
-may_create_nothing name tables image = record { each = λ kept. inl kept }
+may_create_nothing name tables image = record { each = λ says. inl says; readable = λ is. is }
 
 -- where the host isn't called
 pub alters_unasked : (own : List ℕ → Type 0) (during after : Image → Image → Type 0) {T E : Type 0} (result : Result T E) (state : HostState) → IsErr result → ((i : Image) → during i i) → Alters own during after result state state
@@ -50,11 +55,11 @@ alters_stopped (Ok x) failed one = cc failed
 alters_stopped (Err stop) failed one = alters_failed stop one
 
 module _ (store : NodeStoreValue) (tables : Tables) (name : List ℕ) (named : store.name ≡ nodes_name) (reading : IsReading store.nodes tables) (free : is_taken name tables ≡ false) (form : IsWordName name) (below : tables.next + 1 < 2 ^ 63) where
-  pub kept_created : (after : NodeStoreValue) (image : Image) → after.name ≡ nodes_name → multi_applied (create_ops (base36 tables.next) name (tables.next + 1)) store.nodes ≡ Ok after.nodes → IsStored after image → IsKept image (created name tables)
-  kept_created after image is applied stored = kept_stored after (created name tables) image is (reading_created store.nodes tables name reading free after.nodes form below applied) stored
+  pub says_created : (after : NodeStoreValue) (image : Image) → after.name ≡ nodes_name → multi_applied (create_ops (base36 tables.next) name (tables.next + 1)) store.nodes ≡ Ok after.nodes → IsStored after image → SaysTables image (created name tables)
+  says_created after image is applied stored = says_stored after (created name tables) image is (reading_created store.nodes tables name reading free after.nodes form below applied) stored
 
-  kept_applied : (image : Image) → HasApplied (create_ops (base36 tables.next) name (tables.next + 1)) store image → IsKept image (created name tables)
-  kept_applied image applied = record {
+  says_applied : (image : Image) → HasApplied (create_ops (base36 tables.next) name (tables.next + 1)) store image → SaysTables image (created name tables)
+  says_applied image applied = record {
     nodes = applied.after;
     has = subst (λ n. HasNodes n image applied.after) named applied.has;
     reading = reading_created store.nodes tables name reading free applied.after form below applied.applies;
@@ -64,16 +69,25 @@ module _ (store : NodeStoreValue) (tables : Tables) (name : List ℕ) (named : s
     stored_there : (d : Image) → ((q : List ℕ) → IsNodeFile store.name q → file_at d q ≡ file_at image q) → IsStored store d
     stored_there d same = let others = others_dont_count store.name image d (record { each = same }) in others.stored store refl stored
 
+    -- where the nodes that count stay, the image can still be read
+    still_readable : (d p : Image) → ((q : List ℕ) → IsNodeFile store.name q → file_at d q ≡ file_at image q) → OthersStay store.name d p → (after : Nodes) → HasNodes store.name p after → AgreeAside store.nodes after → IsReadable d → IsReadable p
+    still_readable d p same others after has agree is =
+        readable_aside one_nodes d p store.nodes after (subst (λ n. HasNodes n d store.nodes) named (stored_has store d (stored_there d same))) (subst (λ n. HasNodes n p after) named has) (subst (λ n. OthersStay n d p) named others) agree is
+
     pub may_create : (d p : Image) → ((q : List ℕ) → IsNodeFile store.name q → file_at d q ≡ file_at image q) → MayGive (create_ops (base36 tables.next) name (tables.next + 1)) store d p → MayCreate name tables d p
     may_create d p same give = record {
-      each = λ kept. ⊎_elim
+      each = λ says. ⊎_elim
           (λ keeps. inl (record { nodes = store.nodes; has = subst (λ n. HasNodes n p store.nodes) named keeps.has; reading = reading }))
-          (λ applied. inr (kept_applied p applied))
+          (λ applied. inr (says_applied p applied))
+          (give.nodes (stored_there d same));
+      readable = λ is. ⊎_elim
+          (λ keeps. still_readable d p same give.others store.nodes keeps.has (aside_same store.nodes) is)
+          (λ applied. still_readable d p same give.others applied.after applied.has (aside_created store.nodes tables name reading free applied.after applied.applies) is)
           (give.nodes (stored_there d same));
     }
 
     pub creates : (d p : Image) → ((q : List ℕ) → IsNodeFile store.name q → file_at d q ≡ file_at image q) → Gives (create_ops (base36 tables.next) name (tables.next + 1)) store d p → Creates name tables d p
-    creates d p same gives = record { each = λ kept. kept_applied p (gives.nodes (stored_there d same)) }
+    creates d p same gives = record { each = λ says. says_applied p (gives.nodes (stored_there d same)) }
 
   pub alters_created : (ops : List NodeOp) → ops ≡ create_ops (base36 tables.next) name (tables.next + 1) → {T E : Type 0} {result : Result T E} {a b : HostState} → IsSound a → (IsTrue a.is_faithful → IsStored store a.files)
       → Alters (IsNodeFile store.name) (MayGive ops store) (Gives ops store) result a b → Alters (IsNodeFile nodes_name) (MayCreate name tables) (Creates name tables) result a b

@@ -27,9 +27,11 @@ use Rattle.plain_model.specs.Apply.{Outcome, has_name, apply}
 use Rattle.plain_model.specs.declared.stop.PlainStop.TheVariants.{Exists}
 use Rattle.table_store.specs.Numbers.{base36, IsDrawable}
 use Rattle.table_store.specs.Tables.{Tables, AreDrawn, bare, plain_of, is_taken, created}
-use Rattle.table_store.specs.Layout.{nodes_name, next_table_path, table_path, table_value}
+use Rattle.store_layout.specs.Names.{nodes_name}
+use Rattle.store_layout.specs.Nodes.{next_table_path}
+use Rattle.table_store.specs.Layout.{table_path, table_value}
 use Rattle.table_store.specs.Reading.{IsReading}
-use Rattle.table_store.specs.Kept.{IsKept}
+use Rattle.table_store.specs.Kept.{SaysTables}
 use Rattle.plain_model.specs.declared.operation.Op.TheVariants.{Create}
 use Rattle.table_store.proofs.ValueLemmas.{table_value_injective}
 use Rattle.table_store.proofs.ReadingLemmas.{same_value, same_counter}
@@ -53,13 +55,13 @@ alike nodes a b one two name = at (map.get a.by_name name) (map.get b.by_name na
     at None None is other = is ∙ sym other
     at None (Some id) is other = named_alike nodes b a two one name id other ∙ sym other
 
-one_reading : (nodes : Nodes) (a b : Tables) → IsReading nodes a → IsReading nodes b → a ≡ b
+pub one_reading : (nodes : Nodes) (a b : Tables) → IsReading nodes a → IsReading nodes b → a ≡ b
 one_reading nodes a b one two =
     let names : a.by_name ≡ b.by_name = same_paths a.by_name b.by_name (alike nodes a b one two) in
     let numbers : a.next ≡ b.next = same_counter nodes next_table_path a.next b.next one.next two.next in
     λ i. record { by_name = names i; next = numbers i }
 
-pub one_tables : (image : Image) (a b : Tables) → IsKept image a → IsKept image b → a ≡ b
+pub one_tables : (image : Image) (a b : Tables) → SaysTables image a → SaysTables image b → a ≡ b
 one_tables image a b one two = one_reading two.nodes a b (subst (λ n. IsReading n a) (one_nodes nodes_name image one.nodes two.nodes one.has two.has) one.reading) two.reading
 
 -- ---- entries

@@ -4,9 +4,7 @@ pub mod LawsLemmas
 pub mod ValueLemmas
 pub mod ReadingLemmas
 pub mod TablesLemmas
-pub mod DiskLemmas
+pub mod AsideLemmas
 pub mod FirstLemmas
 pub mod AltersMore
-pub mod RoomLemmas
-pub mod StoreLemmas
 pub mod PlainLemmas

@@ -8,7 +8,6 @@ use Rattle.std.specs.FinMap.{is_sorted, entries_sorted, contains_key-keys, get-i
 use Rattle.std.specs.FinMap.Entries.{below_all}
 use Rattle.std.specs.Map.{keys_of}
 use Rattle.std.specs.Str.{bytes_eq}
-use Rattle.std.specs.Fmt.{decimal}
 use Rattle.std.specs.List.{list_any, AllByRecursion}
 use Rattle.std.specs.List.Sorted.{IsStrictlySortedBy}
 use Rattle.std.specs.Option.{is_some, is_none, option_copied}
@@ -31,8 +30,9 @@ use Rattle.node_store.specs.declared.changes.Node.{Node}
 use Rattle.host_model.proofs.Images.{cases_name}
 use Rattle.table_store.specs.Numbers.{IsDrawn}
 use Rattle.table_store.specs.Tables.{ByName, Tables}
-use Rattle.table_store.specs.Layout.{instance_path, instance_value, next_table_path, counter_paths, fixed_paths, table_path, table_value, IsTablePath}
-use Rattle.table_store.specs.Reading.{HasValue, HasCounter, IsCounter, IsReading, HasNoReading, IsTableNode, AddsRead, AddsNode, AddsNone, HasTable, IsRead, ReadsPaths, ReadsNone}
+use Rattle.store_layout.specs.Nodes.{instance_path, instance_value, root_path, next_table_path, IsNext, IsNoCounter}
+use Rattle.table_store.specs.Layout.{counter_paths, fixed_paths, table_path, table_value, IsTablePath}
+use Rattle.table_store.specs.Reading.{HasPath, HasValue, HasNext, IsReading, HasNoReading, IsTableNode, AddsRead, AddsNode, AddsNone, HasTable, IsRead, ReadsPaths, ReadsNone}
 use Rattle.table_store.proofs.ValueLemmas.{table_path_injective, table_value_injective}
 
 -- ---- values and counters
@@ -40,14 +40,16 @@ use Rattle.table_store.proofs.ValueLemmas.{table_path_injective, table_value_inj
 pub same_value : (nodes : Nodes) (path one two : List ℕ) → HasValue nodes path one → HasValue nodes path two → one ≡ two
 same_value nodes path one two first second = sym first.value_is ∙ ap (λ (n : Node). n.value) (same_Some _ _ (sym first.is ∙ second.is)) ∙ second.value_is
 
-pub same_counter : (nodes : Nodes) (path : List ℕ) (one two : ℕ) → HasCounter nodes path one → HasCounter nodes path two → one ≡ two
-same_counter nodes path one two first second = decimal_injective one two (omega (arith, first.drawable.below)) (omega (arith, second.drawable.below)) (same_value nodes path (decimal one) (decimal two) first.has second.has)
+pub same_counter : (nodes : Nodes) (path : List ℕ) (one two : ℕ) → IsNext nodes path one → IsNext nodes path two → one ≡ two
+same_counter nodes path one two first second =
+    decimal_injective one two (omega (arith, first.value.most)) (omega (arith, second.value.most))
+    (sym first.value.is ∙ ap (λ (n : Node). n.value) (same_Some _ _ (sym first.there ∙ second.there)) ∙ second.value.is)
 
 pub no_counter : (nodes : Nodes) (items : List (List ℕ)) (i : ℕ) (path : List ℕ) (found : Option ℕ) → items ≡ counter_paths → i < length items → path ≡ get_or items i path
-    → MatchOption found ((number : ℕ) → HasCounter nodes path number → ⊥) (λ number. HasCounter nodes path number) → is_none found ≡ true → All (IsCounter nodes) counter_paths → ⊥
+    → MatchOption found (IsNoCounter nodes path) (IsNext nodes path) → is_none found ≡ true → All (HasNext nodes) counter_paths → ⊥
 no_counter nodes items i path None are within is none nothing all =
-    let here : IsCounter nodes path = subst (IsCounter nodes) (sym is) (All-get_or (IsCounter nodes) items i path within (subst (λ l. All (IsCounter nodes) l) (sym are) all)) in
-    none here.number here.has
+    let here : HasNext nodes path = subst (HasNext nodes) (sym is) (All-get_or (HasNext nodes) items i path within (subst (λ l. All (HasNext nodes) l) (sym are) all)) in
+    none.none here.number here.is
 no_counter nodes items i path (Some number) are within is some nothing all = cc
 
 -- ---- the paths that each store has
@@ -83,7 +85,7 @@ table_not_fixed id among = All-contains Other fixed_paths (table_path id) others
     other path differs is = differs (second path is)
 
     others : All Other fixed_paths
-    others = All-from_recursion Other fixed_paths (other _ (λ e. omega arith), (other _ (λ e. omega arith), (other _ (λ e. omega arith), (other _ (λ e. omega arith), (other _ (λ e. omega arith), (other _ (λ e. omega arith), tt))))))
+    others = All-from_recursion Other fixed_paths (other _ (λ e. omega arith), (other _ (λ e. omega arith), (other _ (λ e. omega arith), (other _ (λ e. omega arith), (other _ (λ e. omega arith), (other _ (λ e. omega arith), (other _ (λ e. omega arith), tt)))))))
 
 -- ---- the paths of nodes
 
@@ -111,6 +113,9 @@ node_there nodes items i path (Some node) are within is copied = refl
 
 pub node_has : (nodes : Nodes) (path : List ℕ) (o : Option (Bor Node)) (node : Bor Node) → option_copied o ≡ map.get nodes path → o ≡ Some node → HasValue nodes path node.now.value
 node_has nodes path o node copied is = record { node = node.now; is = sym copied ∙ ap option_copied is; value_is = refl }
+
+pub node_is : (nodes : Nodes) (path : List ℕ) (o : Option (Bor Node)) (node : Bor Node) → option_copied o ≡ map.get nodes path → o ≡ Some node → HasPath nodes path
+node_is nodes path o node copied is = record { node = node.now; is = sym copied ∙ ap option_copied is }
 
 split : (a b : Bool) → T (a && b) → T a × T b
 split true b p = (tt, p)
@@ -257,10 +262,11 @@ reads_none nodes next front path value old reads has adds fresh = record { none 
 
 -- ---- all the nodes
 
-pub reads_all : (nodes : Nodes) (next : ℕ) (tables : ByName) → HasValue nodes instance_path instance_value → All (IsCounter nodes) counter_paths → HasCounter nodes next_table_path next → ReadsPaths nodes next (map.keys nodes) tables
+pub reads_all : (nodes : Nodes) (next : ℕ) (tables : ByName) → HasValue nodes instance_path instance_value → HasPath nodes root_path → All (HasNext nodes) counter_paths → IsNext nodes next_table_path next → ReadsPaths nodes next (map.keys nodes) tables
     → IsReading nodes (record { by_name = tables; next = next })
-reads_all nodes next tables instance counters counter reads = record {
+reads_all nodes next tables instance root counters counter reads = record {
   instance = instance;
+  root = root;
   counters = counters;
   next = counter;
   known = λ path node is. ⊎_elim (λ fixed. inl fixed) (λ t. inr (record { id = t.id; is = t.path_is })) (read path node is);
@@ -279,5 +285,5 @@ reads_all nodes next tables instance counters counter reads = record {
     read : (path : List ℕ) (node : Node) → map.get nodes path ≡ Some node → IsRead tables path
     read path node is = All-contains (IsRead tables) (map.keys nodes) path reads.each (key_among nodes path node is)
 
-pub none_read : (nodes : Nodes) (next : ℕ) → HasCounter nodes next_table_path next → ReadsNone nodes next → HasNoReading nodes
+pub none_read : (nodes : Nodes) (next : ℕ) → IsNext nodes next_table_path next → ReadsNone nodes next → HasNoReading nodes
 none_read nodes next counter none = record { none = λ tables reading. none.none tables reading (same_counter nodes next_table_path tables.next next reading.next counter) }

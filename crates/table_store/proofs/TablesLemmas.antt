@@ -25,8 +25,9 @@ use Rattle.node_store.specs.declared.changes.NodeStop.{NodeStop}
 use Rattle.node_store.specs.declared.changes.NodeStop.TheVariants.{Stop as Stopped}
 use Rattle.table_store.specs.Numbers.{base36, value_from, IsDrawn}
 use Rattle.table_store.specs.Tables.{Tables, AreDrawn, is_taken, created}
-use Rattle.table_store.specs.Layout.{instance_path, instance_value, next_table_path, counter_paths, fixed_paths, table_path, table_value, create_ops, IsKnownPath}
-use Rattle.table_store.specs.Reading.{HasValue, HasCounter, IsCounter, IsReading}
+use Rattle.store_layout.specs.Nodes.{instance_path, instance_value, root_path, next_table_path, IsNext}
+use Rattle.table_store.specs.Layout.{counter_paths, fixed_paths, table_path, table_value, create_ops, IsKnownPath}
+use Rattle.table_store.specs.Reading.{HasValue, HasNext, IsReading}
 use Rattle.table_store.specs.Appending.{Applies}
 use Rattle.table_store.proofs.Numerals.{value_from-base36, IsUserTableId-base36}
 use Rattle.table_store.proofs.ValueLemmas.{table_path_injective}
@@ -108,10 +109,10 @@ set_applied nodes path value node more b some lt =
     at true = refl
     at false = refl
 
-same_Ok : (a b : Nodes) → ◌≡◌ {A = Result Nodes NodeStop} (Ok a) (Ok b) → a ≡ b
+pub same_Ok : (a b : Nodes) → ◌≡◌ {A = Result Nodes NodeStop} (Ok a) (Ok b) → a ≡ b
 same_Ok a b is = cc
 
-not_Ok : (stop : NodeStop) (b : Nodes) → ◌≡◌ {A = Result Nodes NodeStop} (Err stop) (Ok b) → ⊥
+pub not_Ok : (stop : NodeStop) (b : Nodes) → ◌≡◌ {A = Result Nodes NodeStop} (Err stop) (Ok b) → ⊥
 not_Ok stop b is = cc
 
 module _ (nodes : Nodes) (tables : Tables) (name : List ℕ) (reading : IsReading nodes tables) (free : is_taken name tables ≡ false) where
@@ -122,13 +123,13 @@ module _ (nodes : Nodes) (tables : Tables) (name : List ℕ) (reading : IsReadin
       at None none = none
       at (Some node) some =
           let listed = reading.listed (base36 tables.next) node some in
-          absurd (fresh_id tables listed.0 (base36 tables.next) reading.ids reading.next.drawable.positive reading.next.drawable.below listed.1 refl)
+          absurd (fresh_id tables listed.0 (base36 tables.next) reading.ids reading.next.value.least reading.next.value.most listed.1 refl)
 
   id_not_fixed : (path : List ℕ) → Contains fixed_paths path → path ≢ table_path (base36 tables.next)
   id_not_fixed path fixed same = table_not_fixed (base36 tables.next) (subst (λ p. Contains fixed_paths p) same fixed)
 
   next_fixed : Contains fixed_paths next_table_path
-  next_fixed = (1, omega arith, refl)
+  next_fixed = (2, omega arith, refl)
 
   -- the node of the table
   got_table : (node : Node) → map.get (made nodes node (base36 tables.next) name (tables.next + 1)) (table_path (base36 tables.next)) ≡ Some (record { value = table_value name; version = 0 })
@@ -137,27 +138,27 @@ module _ (nodes : Nodes) (tables : Tables) (name : List ℕ) (reading : IsReadin
   got_next : (node : Node) → map.get (made nodes node (base36 tables.next) name (tables.next + 1)) next_table_path ≡ Some (record { value = decimal (tables.next + 1); version = node.version + 1 })
   got_next node = other_key _ (table_path (base36 tables.next)) _ next_table_path (id_not_fixed next_table_path next_fixed) ∙ own_key nodes next_table_path _
 
-  got_rest : (node : Node) (path : List ℕ) → path ≢ table_path (base36 tables.next) → path ≢ next_table_path → map.get (made nodes node (base36 tables.next) name (tables.next + 1)) path ≡ map.get nodes path
+  pub got_rest : (node : Node) (path : List ℕ) → path ≢ table_path (base36 tables.next) → path ≢ next_table_path → map.get (made nodes node (base36 tables.next) name (tables.next + 1)) path ≡ map.get nodes path
   got_rest node path apart also = other_key _ (table_path (base36 tables.next)) _ path apart ∙ other_key nodes next_table_path _ path also
 
-  -- what had a value keeps it, but for the counter
+  -- what was there stays, but for the counter
+  kept_node : (node found : Node) (path : List ℕ) → path ≢ next_table_path → map.get nodes path ≡ Some found → map.get (made nodes node (base36 tables.next) name (tables.next + 1)) path ≡ Some found
+  kept_node node found path apart is = got_rest node path (λ same. not_there nodes path found is (ap (λ p. map.get nodes p) same ∙ path_free)) apart ∙ is
+
   kept_value : (node : Node) (path value : List ℕ) → path ≢ next_table_path → HasValue nodes path value → HasValue (made nodes node (base36 tables.next) name (tables.next + 1)) path value
-  kept_value node path value apart has = record {
-    node = has.node;
-    is = got_rest node path (λ same. not_there nodes path has.node has.is (ap (λ p. map.get nodes p) same ∙ path_free)) apart ∙ has.is;
-    value_is = has.value_is;
-  }
+  kept_value node path value apart has = record { node = has.node; is = kept_node node has.node path apart has.is; value_is = has.value_is }
 
-  next_counter : (node : Node) → tables.next + 1 < 2 ^ 63 → HasCounter (made nodes node (base36 tables.next) name (tables.next + 1)) next_table_path (tables.next + 1)
+  next_counter : (node : Node) → tables.next + 1 < 2 ^ 63 → IsNext (made nodes node (base36 tables.next) name (tables.next + 1)) next_table_path (tables.next + 1)
   next_counter node below = record {
-    drawable = record { positive = omega arith; below = below };
-    has = record { node = record { value = decimal (tables.next + 1); version = node.version + 1 }; is = got_next node; value_is = refl };
+    node = record { value = decimal (tables.next + 1); version = node.version + 1 };
+    there = got_next node;
+    value = record { is = refl; least = omega arith; most = below };
   }
 
-  kept_counter : (node : Node) → tables.next + 1 < 2 ^ 63 → (path : List ℕ) → IsCounter nodes path → IsCounter (made nodes node (base36 tables.next) name (tables.next + 1)) path
+  kept_counter : (node : Node) → tables.next + 1 < 2 ^ 63 → (path : List ℕ) → HasNext nodes path → HasNext (made nodes node (base36 tables.next) name (tables.next + 1)) path
   kept_counter node below path counter = ⊎_elim
-      (λ same. subst (IsCounter (made nodes node (base36 tables.next) name (tables.next + 1))) (sym same) (record { number = tables.next + 1; has = next_counter node below }))
-      (λ apart. record { number = counter.number; has = record { drawable = counter.has.drawable; has = kept_value node path (decimal counter.number) apart counter.has.has } })
+      (λ same. subst (HasNext (made nodes node (base36 tables.next) name (tables.next + 1))) (sym same) (record { number = tables.next + 1; is = next_counter node below }))
+      (λ apart. record { number = counter.number; is = record { node = counter.is.node; there = kept_node node counter.is.node path apart counter.is.there; value = counter.is.value } })
       (cases_name path next_table_path)
 
   known_path : (node found : Node) (path : List ℕ) → map.get (made nodes node (base36 tables.next) name (tables.next + 1)) path ≡ Some found → IsKnownPath path
@@ -202,33 +203,34 @@ module _ (nodes : Nodes) (tables : Tables) (name : List ℕ) (reading : IsReadin
   pub reading_made : (node : Node) → IsWordName name → tables.next + 1 < 2 ^ 63 → IsReading (made nodes node (base36 tables.next) name (tables.next + 1)) (created name tables)
   reading_made node form below = record {
     instance = kept_value node instance_path instance_value (λ same. absurd (omega (arith, ap (λ l. get_or l 1 0) same))) reading.instance;
-    counters = All-weaker (IsCounter nodes) (IsCounter (made nodes node (base36 tables.next) name (tables.next + 1))) (kept_counter node below) counter_paths reading.counters;
+    root = record { node = reading.root.node; is = kept_node node reading.root.node root_path (λ same. absurd (omega (arith, ap (λ l. get_or l 1 0) same))) reading.root.is };
+    counters = All-weaker (HasNext nodes) (HasNext (made nodes node (base36 tables.next) name (tables.next + 1))) (kept_counter node below) counter_paths reading.counters;
     next = next_counter node below;
     known = λ path found is. known_path node found path is;
     there = λ one id found. table_there node one id found;
     listed = λ id found is. table_listed node id found is;
     named = λ one id found. ⊎_elim (λ same. subst IsWordName (sym same) form) (λ apart. reading.named one id (old_name one id found apart)) (cases_name one name);
-    ids = drawn_created tables name reading.ids reading.next.drawable.positive reading.next.drawable.below free;
+    ids = drawn_created tables name reading.ids reading.next.value.least reading.next.value.most free;
   }
 
   -- what the changes make
-  creates : (b : Bool) → nat_lt (reading.next.has.node.version + 1) (2 ^ 63) ≡ b
-      → multi_applied (create_ops (base36 tables.next) name (tables.next + 1)) nodes ≡ cond b (Ok (made nodes reading.next.has.node (base36 tables.next) name (tables.next + 1))) (Err (Stopped Full))
+  pub creates : (b : Bool) → nat_lt (reading.next.node.version + 1) (2 ^ 63) ≡ b
+      → multi_applied (create_ops (base36 tables.next) name (tables.next + 1)) nodes ≡ cond b (Ok (made nodes reading.next.node (base36 tables.next) name (tables.next + 1))) (Err (Stopped Full))
   creates b lt =
-      set_applied nodes next_table_path (decimal (tables.next + 1)) reading.next.has.node (Create (table_path (base36 tables.next)) (table_value name) ∷ []) b reading.next.has.is lt
+      set_applied nodes next_table_path (decimal (tables.next + 1)) reading.next.node (Create (table_path (base36 tables.next)) (table_value name) ∷ []) b reading.next.there lt
       ∙ ap (λ r. cond b r (Err (Stopped Full))) (create_applied _ (table_path (base36 tables.next)) (table_value name) [] (other_key nodes next_table_path _ (table_path (base36 tables.next)) (table_apart (base36 tables.next)) ∙ path_free))
 
   pub applies_created : Applies (create_ops (base36 tables.next) name (tables.next + 1)) nodes
-  applies_created = record { applies = at (nat_lt (reading.next.has.node.version + 1) (2 ^ 63)) refl }
+  applies_created = record { applies = at (nat_lt (reading.next.node.version + 1) (2 ^ 63)) refl }
     where
-      at : (b : Bool) → nat_lt (reading.next.has.node.version + 1) (2 ^ 63) ≡ b → MatchResult (multi_applied (create_ops (base36 tables.next) name (tables.next + 1)) nodes) (λ after. ⊤) (λ stop. stop ≡ Stopped Full)
+      at : (b : Bool) → nat_lt (reading.next.node.version + 1) (2 ^ 63) ≡ b → MatchResult (multi_applied (create_ops (base36 tables.next) name (tables.next + 1)) nodes) (λ after. ⊤) (λ stop. stop ≡ Stopped Full)
       at true lt = subst (λ r. MatchResult r (λ after. ⊤) (λ stop. stop ≡ Stopped Full)) (sym (creates true lt)) tt
       at false lt = subst (λ r. MatchResult r (λ after. ⊤) (λ stop. stop ≡ Stopped Full)) (sym (creates false lt)) refl
 
   -- whatever the changes make says the tables with one more
   pub reading_created : (result : Nodes) → IsWordName name → tables.next + 1 < 2 ^ 63 → multi_applied (create_ops (base36 tables.next) name (tables.next + 1)) nodes ≡ Ok result → IsReading result (created name tables)
-  reading_created result form below is = at (nat_lt (reading.next.has.node.version + 1) (2 ^ 63)) refl
+  reading_created result form below is = at (nat_lt (reading.next.node.version + 1) (2 ^ 63)) refl
     where
-      at : (b : Bool) → nat_lt (reading.next.has.node.version + 1) (2 ^ 63) ≡ b → IsReading result (created name tables)
-      at true lt = subst (λ n. IsReading n (created name tables)) (same_Ok _ _ (sym (creates true lt) ∙ is)) (reading_made reading.next.has.node form below)
+      at : (b : Bool) → nat_lt (reading.next.node.version + 1) (2 ^ 63) ≡ b → IsReading result (created name tables)
+      at true lt = subst (λ n. IsReading n (created name tables)) (same_Ok _ _ (sym (creates true lt) ∙ is)) (reading_made reading.next.node form below)
       at false lt = absurd (not_Ok _ _ (sym (creates false lt) ∙ is))

@@ -1,39 +1,16 @@
 -- What the paths and values of nodes say.
 use Rattle.std.proofs.Common.{◌≡◌, ◌≢◌, ℕ, ◌+◌, ◌*◌, ◌<◌, ◌≤◌, Bool, true, false, nat_lt, List, [], ◌∷◌, ◌++◌, length, Option, Some, None, Result, Ok, Err, IsTrue, refl, sym, ◌∙◌, ap, subst, arith}
-use Rattle.std.specs.Prelude.{MatchBool, MatchOption, MatchResult, IfOk, OnSome, codes}
+use Rattle.std.specs.Prelude.{MatchBool, MatchOption, IfOk, OnSome, codes}
 use Rattle.std.specs.Borrow.{Bor}
 use Rattle.std.specs.Option.{option_and_then}
-use Rattle.std.specs.Result.{result_ok}
 use Rattle.std.specs.List.{list_all}
-use Rattle.std.specs.Str.{IsUtf8}
-use Rattle.std.specs.Str.Parse.{ParsesUnsigned}
-use Rattle.std.specs.Fmt.{decimal}
 use Rattle.std.proofs.lemmas.Bool.Decides.{nat_tests}
 use Rattle.std.proofs.lemmas.Option.{same_Some}
 use Rattle.std.proofs.lemmas.List.{append_cancel_right}
 use Rattle.std.proofs.lemmas.Bool.{ltb-true, ltb-false}
-use Rattle.std.proofs.lemmas.Fmt.{IsAscii-decimal, parse-decimal}
-use Rattle.std.proofs.lemmas.Str.{IsUtf8-from_ascii}
 use Rattle.row_keys.specs.Forms.{is_lower_or_digit, IsWordName}
-use Rattle.table_store.specs.Numbers.{value_of, value_from, IsDrawn, IsDrawable}
+use Rattle.table_store.specs.Numbers.{value_of, value_from, IsDrawn}
 use Rattle.table_store.specs.Layout.{table_path, table_value}
-
--- ---- counters
-
-IsUtf8-decimal : (bytes : List ℕ) (number : ℕ) → IsDrawable number → bytes ≡ decimal number → IsUtf8 bytes
-IsUtf8-decimal bytes number drawable is = subst IsUtf8 (sym is) (IsUtf8-from_ascii (decimal number) (IsAscii-decimal number (omega (arith, drawable.below))))
-
-pub not_decimal : {E : Type 0} (P : E → Type 0) (bytes : List ℕ) (r : Result (Bor (List ℕ)) E) (number : ℕ) → MatchResult r (λ s. (s.now ≡ bytes) × IsUtf8 bytes) (λ e. (IsUtf8 bytes → ⊥) × P e) → result_ok r ≡ None
-    → IsDrawable number → bytes ≡ decimal number → ⊥
-not_decimal P bytes (Ok s) number cases none drawable is = cc
-not_decimal P bytes (Err e) number cases none drawable is = cases.0 (IsUtf8-decimal bytes number drawable is)
-
-pub text_is : {E : Type 0} (P : E → Type 0) (bytes : List ℕ) (r : Result (Bor (List ℕ)) E) (text : Bor (List ℕ)) → MatchResult r (λ s. (s.now ≡ bytes) × IsUtf8 bytes) (λ e. (IsUtf8 bytes → ⊥) × P e) → result_ok r ≡ Some text → text.now ≡ bytes
-text_is P bytes (Ok s) text cases some = ap (λ (b : Bor (List ℕ)). b.now) (sym (same_Some _ _ some)) ∙ cases.0
-text_is P bytes (Err e) text cases some = cc
-
-pub parsed_is : {E : Type 0} (bytes : List ℕ) (r : Result ℕ E) (number : ℕ) → ParsesUnsigned 64 10 bytes r → IsDrawable number → bytes ≡ decimal number → result_ok r ≡ Some number
-parsed_is bytes r number parses drawable is = ap result_ok (parse-decimal 64 number bytes r (omega (arith, drawable.below)) (omega (arith, drawable.below)) is parses)
 
 -- ---- ids
 

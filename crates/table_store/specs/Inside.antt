@@ -1,6 +1,6 @@
 -- What a store of tables keeps.
 use Rattle.std.specs.Prelude.{◌≡◌, ◌+◌, ◌≤◌, None, IfSome, take, drop, length}
-use Rattle.table_store.specs.Layout.{nodes_name}
+use Rattle.store_layout.specs.Names.{nodes_name}
 use Rattle.table_store.specs.Reading.{IsReading}
 use Rattle.table_store.specs.StoreValue.{StoreValue}
 use Rattle.table_store.specs.Creating.{IsUnnamed}

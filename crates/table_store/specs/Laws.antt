@@ -4,13 +4,18 @@ use Rattle.host_model.specs.Picture.{Image}
 use Rattle.plain_model.specs.Apply.{apply}
 use Rattle.plain_model.specs.declared.stop.PlainStop.TheVariants.{Exists}
 use Rattle.table_store.specs.Numbers.{base36, IsDrawable}
-use Rattle.table_store.specs.Tables.{Tables, AreDrawn, is_taken, created, plain_of, table_texts, plain_texts}
-use Rattle.table_store.specs.Kept.{IsKept}
+use Rattle.store_layout.specs.NewStore.{IsNewStore}
+use Rattle.table_store.specs.Tables.{Tables, AreDrawn, no_tables, is_taken, created, plain_of, table_texts, plain_texts}
+use Rattle.table_store.specs.Kept.{SaysTables, IsKept}
 use Rattle.plain_model.specs.declared.operation.Op.TheVariants.{Create}
 
--- an image is kept with these tables or with none
+-- an image says these tables or none
 abbrev pub TablesAreOne : Type 0
-TablesAreOne = (image : Image) (a b : Tables) → IsKept image a → IsKept image b → a ≡ b
+TablesAreOne = (image : Image) (a b : Tables) → SaysTables image a → SaysTables image b → a ≡ b
+
+-- a new store is kept, with no tables
+abbrev pub NewStoresAreKept : Type 0
+NewStoresAreKept = (image : Image) → IsNewStore image → IsKept image no_tables
 
 -- a table of a free name is what its operation makes
 abbrev pub CreatedIsApplied : Type 0

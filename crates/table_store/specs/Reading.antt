@@ -1,33 +1,34 @@
 -- What the nodes of a store say.
 use Rattle.std.specs.Prelude.{◌≡◌, ◌⊎◌, ℕ, List, Some, None, All, Contains}
 use Rattle.std.specs.FinMap as map
-use Rattle.std.specs.Fmt.{decimal}
 use Rattle.row_keys.specs.Forms.{IsWordName}
 use Rattle.node_store.specs.Nodes.{Nodes}
 use Rattle.node_store.specs.declared.changes.Node.{Node}
-use Rattle.table_store.specs.Numbers.{IsDrawn, IsDrawable}
+use Rattle.table_store.specs.Numbers.{IsDrawn}
 use Rattle.table_store.specs.Tables.{ByName, Tables, AreDrawn}
-use Rattle.table_store.specs.Layout.{instance_path, instance_value, next_table_path, counter_paths, fixed_paths, table_path, table_value, IsKnownPath}
+use Rattle.store_layout.specs.Nodes.{instance_path, instance_value, root_path, next_table_path, IsNext}
+use Rattle.table_store.specs.Layout.{counter_paths, fixed_paths, table_path, table_value, IsKnownPath}
+
+pub record HasPath (nodes : Nodes) (path : List ℕ) : Type 0 where
+  pub node : Node
+  pub is : map.get nodes path ≡ Some node
 
 pub record HasValue (nodes : Nodes) (path value : List ℕ) : Type 0 where
   pub node : Node
   pub is : map.get nodes path ≡ Some node
   pub value_is : node.value ≡ value
 
--- a counter stands at this number
-pub record HasCounter (nodes : Nodes) (path : List ℕ) (number : ℕ) : Type 0 where
-  pub drawable : IsDrawable number
-  pub has : HasValue nodes path (decimal number)
-
-pub record IsCounter (nodes : Nodes) (path : List ℕ) : Type 0 where
+-- a number is drawn next at the path
+pub record HasNext (nodes : Nodes) (path : List ℕ) : Type 0 where
   pub number : ℕ
-  pub has : HasCounter nodes path number
+  pub is : IsNext nodes path number
 
 -- The nodes are of their forms, and these are the tables in them.
 pub record IsReading (nodes : Nodes) (tables : Tables) : Type 0 where
   pub instance : HasValue nodes instance_path instance_value
-  pub counters : All (IsCounter nodes) counter_paths
-  pub next : HasCounter nodes next_table_path tables.next
+  pub root : HasPath nodes root_path
+  pub counters : All (HasNext nodes) counter_paths
+  pub next : IsNext nodes next_table_path tables.next
   pub known : (path : List ℕ) (node : Node) → map.get nodes path ≡ Some node → IsKnownPath path
   -- each table has its node, and each node of a table is one of these
   pub there : (name id : List ℕ) → map.get tables.by_name name ≡ Some id → HasValue nodes (table_path id) (table_value name)

@@ -5,9 +5,11 @@ use Rattle.node_store.specs.Nodes.{multi_applied}
 use Rattle.node_store.specs.Multi.{spelled_multi}
 use Rattle.node_store.specs.Answers.{IsFull}
 use Rattle.node_store.specs.Value.{StoreValue as NodeStoreValue}
+use Rattle.store_layout.specs.Names.{nodes_name}
+use Rattle.store_layout.specs.NewStore.{first_ops}
 use Rattle.table_store.specs.Numbers.{base36}
 use Rattle.table_store.specs.Tables.{Tables, no_tables, created}
-use Rattle.table_store.specs.Layout.{nodes_name, create_ops, first_ops}
+use Rattle.table_store.specs.Layout.{create_ops}
 
 -- there is no number or no room for one table more
 abbrev pub IsCreateFull : List ℕ → Tables → NodeStoreValue → Type 0

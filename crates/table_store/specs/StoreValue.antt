@@ -1,20 +1,19 @@
 -- What contracts see of a store of tables, and what its calls do.
-use Rattle.std.specs.Prelude.{◌≡◌, ◌⊎◌, ℕ, List, [], ◌∷◌, ◌++◌, Option, None, Result, IsTrue, OnOk}
+use Rattle.std.specs.Prelude.{◌≡◌, ◌⊎◌, ℕ, List, [], ◌∷◌, ◌++◌, Option, None}
 use Rattle.host_model.specs.Picture.{Image}
 use Rattle.host_model.specs.State.{HostState}
-use Rattle.host_model.specs.Calls.{IsQuiet, Faulted, IsOfFiles}
-use Rattle.host_model.specs.Leaves.{LeavesOnly, AllSettled, Shows}
+use Rattle.host_model.specs.Calls.{Faulted, IsOfFiles}
 use Rattle.host_model.specs.declared.fault.Stop.{Stop}
 use Rattle.host_model.specs.declared.fault.Stop.TheVariants.{Host, Damaged, Full, NoMemory}
-use Rattle.node_store.specs.Image.{IsBorn, IsUnborn}
+use Rattle.node_store.specs.Nodes.{Nodes}
 use Rattle.node_store.specs.Value.{StoreValue as NodeStoreValue}
 use Rattle.table_store.specs.Numbers.{base36}
-use Rattle.table_store.specs.Tables.{Tables, no_tables, created}
-use Rattle.table_store.specs.Layout.{nodes_name}
+use Rattle.store_layout.specs.Names.{nodes_name}
+use Rattle.store_meaning.specs.Readable.{IsReadable}
+use Rattle.table_store.specs.Tables.{Tables, created}
+use Rattle.table_store.specs.Reading.{HasNoReading}
 use Rattle.table_store.specs.Room.{Station, IsCreateFull, AddsTable}
-use Rattle.table_store.specs.Kept.{IsKept, IsNotKept, IsUnbornDisk}
-use Rattle.table_store.specs.declared.stop.StoreStop.{StoreStop}
-use Rattle.table_store.specs.declared.stop.StoreStop.TheVariants.{NotInit, NotBlank, Stopped}
+use Rattle.table_store.specs.Kept.{SaysTables}
 use Rattle.plain_model.specs.declared.operation.Op.TheVariants.{Create}
 use Rattle.plain_model.specs.declared.operation.Source.TheVariants.{Line}
 use Rattle.plain_model.specs.declared.operation.Entry.{Entry}
@@ -42,23 +41,13 @@ pub record IsFresh (store : StoreValue) : Type 0 where
   pub doubt : store.doubt ≡ []
   pub running : store.stop ≡ None
 
--- an unborn disk stays so, or becomes a new store
-pub record MayBeBorn (old new : Image) : Type 0 where
-  pub each : IsUnbornDisk old → IsUnbornDisk new ⊎ IsKept new no_tables
-
--- A new store is made. A fault or a crash on the way leaves the disk unborn, or the store there.
-pub record Makes {T E : Type 0} (result : Result T E) (old new : HostState) : Type 0 where
-  pub quiet : IsQuiet old new
-  pub tried : IsTrue old.is_faithful → MayBeBorn old.files new.files
-  pub leaves : IsTrue old.is_honest → AllSettled old → IsUnbornDisk old.files → LeavesOnly (Shows (λ image. IsUnbornDisk image ⊎ IsKept image no_tables) old.said) old new
-  pub rests : IsTrue old.is_honest → AllSettled old → OnOk result (AllSettled new)
-
--- the image stays kept with these tables, or has one more
+-- the image says these tables still, or one more; and if it could be read, it still can
 pub record MayCreate (name : List ℕ) (tables : Tables) (old new : Image) : Type 0 where
-  pub each : IsKept old tables → IsKept new tables ⊎ IsKept new (created name tables)
+  pub each : SaysTables old tables → SaysTables new tables ⊎ SaysTables new (created name tables)
+  pub readable : IsReadable old → IsReadable new
 
 pub record Creates (name : List ℕ) (tables : Tables) (old new : Image) : Type 0 where
-  pub each : IsKept old tables → IsKept new (created name tables)
+  pub each : SaysTables old tables → SaysTables new (created name tables)
 
 -- the store has one table more, and the entry for it
 pub record HasCreated (line : ℕ) (name : List ℕ) (old new : StoreValue) : Type 0 where
@@ -81,24 +70,9 @@ IsUnasked (Damaged named) = ⊥
 IsUnasked Full = Unit {0}
 IsUnasked NoMemory = Unit {0}
 
--- why the disk could not be looked at, or no store made on an unborn one
-abbrev pub MakeStops : Stop → HostState → HostState → Type 0
-MakeStops (Host fault) old new = IsOfFiles fault × Faulted fault old new
-MakeStops (Damaged named) old new = ⊥
-MakeStops Full old new = ⊥
-MakeStops NoMemory old new = Unit {0}
-
--- why no store was made
-abbrev pub InitStops : StoreStop → HostState → HostState → Type 0
-InitStops NotInit old new = ⊥
-InitStops NotBlank old new = IsTrue old.is_faithful → IsUnbornDisk old.files → ⊥
-InitStops (Stopped stop) old new = MakeStops stop old new
-
--- why no store was opened
-abbrev pub OpenStops : StoreStop → HostState → HostState → Type 0
-OpenStops NotInit old new = IsTrue old.is_faithful → IsUnborn nodes_name old.files
-OpenStops NotBlank old new = ⊥
-OpenStops (Stopped (Host fault)) old new = IsOfFiles fault × Faulted fault old new
-OpenStops (Stopped (Damaged named)) old new = (named ≡ nodes_name) × (IsTrue old.is_faithful → IsBorn nodes_name old.files × IsNotKept old.files)
-OpenStops (Stopped Full) old new = ⊥
-OpenStops (Stopped NoMemory) old new = Unit {0}
+-- why no tables were read from these nodes: some node isn't of its form, or memory was short
+abbrev pub ReadStops : Stop → Nodes → Type 0
+ReadStops (Host fault) nodes = ⊥
+ReadStops (Damaged named) nodes = (named ≡ nodes_name) × HasNoReading nodes
+ReadStops Full nodes = ⊥
+ReadStops NoMemory nodes = Unit {0}

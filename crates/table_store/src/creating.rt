@@ -10,8 +10,9 @@ ghost use Rattle.node_store.specs.Steps.{MayGive, Gives};
 ghost use Rattle.node_store.specs.Answers.{IsFull};
 ghost use Rattle.table_store.specs.Numbers.{base36};
 ghost use Rattle.table_store.specs.Tables.{is_taken};
-ghost use Rattle.table_store.specs.Layout.{nodes_name, create_ops};
-ghost use Rattle.table_store.specs.Kept.{IsKept};
+ghost use Rattle.store_layout.specs.Names.{nodes_name};
+ghost use Rattle.table_store.specs.Layout.{create_ops};
+ghost use Rattle.table_store.specs.Kept.{SaysTables};
 ghost use Rattle.table_store.specs.StoreValue.{MayCreate, Creates, HasCreated, CreateStops, IsUnasked};
 ghost use Rattle.table_store.specs.Room.{IsCreateFull};
 ghost use Rattle.table_store.specs.Appending.{Applies, IsFullOrNoMemory};
@@ -117,7 +118,8 @@ impl TableStore {
     /// exactly where a table has the name, and then nothing is done. It answers `Full` exactly where the next number would
     /// reach 2^63 or the nodes have no room for the changes (or `NoMemory` in its place), `NoMemory`, or a fault of the
     /// host. After an error the store has stopped: it answers the same one to each later call, and asks the host nothing.
-    /// Only a fault of the host leaves the entry in doubt. A crash inside leaves the store with the table or without it.
+    /// Only a fault of the host leaves the entry in doubt. A crash inside leaves the store with the table or without it, and
+    /// an image that could be read can still be.
     /// Costs one multi of the nodes, and the logarithm of the number of tables. This project's own.
     pub fn create_table<H: Host>(
         &mut self,
@@ -132,7 +134,7 @@ impl TableStore {
         ensures made { is_taken name self.old.tables ≡ false → IfOk result (λ made. made ≡ true) }
         ensures created { is_taken name self.old.tables ≡ false → OnOk result (HasCreated line name self.old self.new) }
         ensures stored { IsTrue (H.state host.new).is_faithful → OnOk result (IsStored self.new.nodes (H.state host.new).files) }
-        ensures kept { IsTrue (H.state host.new).is_faithful → OnOk result (IsKept (H.state host.new).files self.new.tables) }
+        ensures says { IsTrue (H.state host.new).is_faithful → OnOk result (SaysTables (H.state host.new).files self.new.tables) }
         ensures alters { is_taken name self.old.tables ≡ false → Alters (IsNodeFile nodes_name) (MayCreate name self.old.tables) (Creates name self.old.tables) result (H.state host.old) (H.state host.new) }
         ensures stopped { IfErr result (λ stop. self.new.stop ≡ Some stop) }
         ensures history { IfErr result (λ stop. self.new.history ≡ self.old.history) }

@@ -3,7 +3,6 @@
 
 mod appending;
 mod creating;
-mod disk;
 mod ids;
 mod index;
 mod laws;
@@ -13,6 +12,5 @@ mod stop;
 mod store;
 mod values;
 
-pub use laws::{created_is_applied, tables_are_one, texts_are_plain};
-pub use stop::StoreStop;
+pub use laws::{a_new_store_is_kept, created_is_applied, tables_are_one, texts_are_plain};
 pub use store::TableStore;

@@ -1,10 +1,9 @@
 // The nodes of a store, and the changes of them.
-ghost use Rattle.std.specs.Prelude.{◌≡◌, ◌++◌, ◌≤◌, length, IfOk};
+ghost use Rattle.std.specs.Prelude.{◌≡◌, IfOk};
 ghost use Rattle.std.specs.Fmt.{decimal};
 ghost use Rattle.row_keys.specs.Forms.{IsPath};
-ghost use Rattle.table_store.specs.Layout.{nodes_name, counter_paths, table_path, table_value, create_ops, first_ops};
+ghost use Rattle.table_store.specs.Layout.{counter_paths, table_path, table_value, create_ops};
 
-use host_model::Name;
 use node_store::NodeOp;
 use row_keys::{Octets, Path, TableId, TableName};
 use std::alloc::{AllocError, Global};
@@ -12,6 +11,8 @@ use std::alloc::{AllocError, Global};
 pub const INSTANCE: &[u8] = b"/instance";
 
 pub const INSTANCE_VALUE: &[u8] = b"accmgr 1";
+
+pub const ROOT: &[u8] = b"/root";
 
 pub const NEXT_TABLE: &[u8] = b"/next/table";
 
@@ -30,14 +31,7 @@ pub const ONLINE: &[u8] = b"ONLINE ";
 
 pub const NO_MARK: &[u8] = b" -";
 
-/// The name of the file of the nodes.
-pub fn nodes_name(alloc: Global) -> Result<Name, AllocError>
-    ensures { IfOk result (λ name. name ≡ nodes_name) }
-{
-    let name = Name::new(alloc, "nodes")?;
-    Ok(name.unwrap())
-}
-
+/// The path that these bytes are.
 pub fn path(alloc: Global, bytes: &[u8]) -> Result<Path, AllocError>
     requires { IsPath bytes.now }
     ensures { IfOk result (λ path. path ≡ bytes.now) }
@@ -101,20 +95,4 @@ pub fn counter_paths(alloc: Global) -> Result<Vec<Path>, AllocError>
         paths.push(path(alloc, bytes)?)?;
     }
     Ok(paths)
-}
-
-/// The changes that make a store.
-pub fn first_ops(alloc: Global) -> Result<Vec<NodeOp>, AllocError>
-    ensures { IfOk result (λ ops. ops.items ≡ first_ops) }
-{
-    let instance = NodeOp::Create {
-        path: path(alloc, INSTANCE)?,
-        value: Octets::new(alloc, INSTANCE_VALUE)?,
-    };
-    let mut ops = vec![in alloc; instance]?;
-    for path in counter_paths(alloc)? {
-        let value = decimal(alloc, 1)?;
-        ops.push(NodeOp::Create { path, value })?;
-    }
-    Ok(ops)
 }

@@ -3,15 +3,17 @@ ghost use Rattle.std.specs.Prelude.{◌≡◌, ◌==◌, ◌||◌, ℕ, List, If
 ghost use Rattle.std.specs.FinMap as map;
 ghost use Rattle.std.specs.List.{list_any};
 ghost use Rattle.std.specs.Str.{bytes_eq};
-ghost use Rattle.table_store.specs.Layout.{instance_path, instance_value, counter_paths, fixed_paths};
-ghost use Rattle.table_store.specs.Reading.{HasValue, HasCounter, IsCounter, IsReading, HasNoReading, IsTableNode, IsNoTableNode, AddsNode, AddsNone, ReadsPaths, ReadsNone};
+ghost use Rattle.store_layout.specs.Nodes.{instance_path, instance_value, root_path};
+ghost use Rattle.table_store.specs.Layout.{counter_paths, fixed_paths};
+ghost use Rattle.table_store.specs.Reading.{HasPath, HasValue, HasNext, IsReading, HasNoReading, IsTableNode, IsNoTableNode, AddsNode, AddsNone, ReadsPaths, ReadsNone};
 
 use crate::index::TableIndex;
-use crate::nodes::{COUNTERS, INSTANCE, INSTANCE_VALUE, NEXT_TABLE, counter_paths, path};
-use crate::values::{counter_of, id_of, name_of};
+use crate::nodes::{COUNTERS, INSTANCE, INSTANCE_VALUE, NEXT_TABLE, ROOT, counter_paths, path};
+use crate::values::{id_of, name_of};
 use node_store::NodeStore;
-use row_keys::{Path, TableId, TableName};
+use row_keys::{TableId, TableName};
 use std::alloc::{AllocError, Global};
+use store_layout::next_number;
 
 fn has_instance(alloc: Global, nodes: &NodeStore) -> Result<bool, AllocError>
     ensures { IfOk result (λ has. MatchBool has (HasValue nodes.now.nodes instance_path instance_value) (HasValue nodes.now.nodes instance_path instance_value → ⊥)) }
@@ -23,20 +25,21 @@ fn has_instance(alloc: Global, nodes: &NodeStore) -> Result<bool, AllocError>
     }
 }
 
-fn counter_at(alloc: Global, nodes: &NodeStore, path: &Path) -> Result<Option<u64>, AllocError>
-    ensures { IfOk result (λ found. MatchOption found ((number : ℕ) → HasCounter nodes.now.nodes path.now number → ⊥) (λ number. HasCounter nodes.now.nodes path.now number)) }
+fn has_root(alloc: Global, nodes: &NodeStore) -> Result<bool, AllocError>
+    ensures { IfOk result (λ has. MatchBool has (HasPath nodes.now.nodes root_path) (HasPath nodes.now.nodes root_path → ⊥)) }
 {
-    match nodes.get(path) {
-        Some(node) => counter_of(alloc, node.value.as_bytes()),
-        None => Ok(None),
+    let path = path(alloc, ROOT)?;
+    match nodes.get(&path) {
+        Some(_) => Ok(true),
+        None => Ok(false),
     }
 }
 
 fn has_counters(alloc: Global, nodes: &NodeStore) -> Result<bool, AllocError>
-    ensures { IfOk result (λ has. MatchBool has (All (IsCounter nodes.now.nodes) counter_paths) (All (IsCounter nodes.now.nodes) counter_paths → ⊥)) }
+    ensures { IfOk result (λ has. MatchBool has (All (HasNext nodes.now.nodes) counter_paths) (All (HasNext nodes.now.nodes) counter_paths → ⊥)) }
 {
     for path in &counter_paths(alloc)? {
-        if counter_at(alloc, nodes, path)?.is_none() {
+        if next_number(alloc, nodes, path)?.is_none() {
             return Ok(false);
         }
     }
@@ -47,7 +50,7 @@ fn has_counters(alloc: Global, nodes: &NodeStore) -> Result<bool, AllocError>
 fn is_fixed(path: &[u8]) -> bool
     ensures { result ≡ list_any (λ fixed. bytes_eq fixed path.now) fixed_paths }
 {
-    INSTANCE == path || COUNTERS.contains(&path)
+    INSTANCE == path || ROOT == path || COUNTERS.contains(&path)
 }
 
 /// The table whose node has this path and value, where its id was drawn before `next`.
@@ -119,11 +122,11 @@ pub fn read_tables(
 ) -> Result<Option<(TableIndex, u64)>, AllocError>
     ensures { IfOk result (λ found. MatchOption found (HasNoReading nodes.now.nodes) (λ read. IsReading nodes.now.nodes (record { by_name = read.0; next = read.1 }))) }
 {
-    if !has_instance(alloc, nodes)? || !has_counters(alloc, nodes)? {
+    if !has_instance(alloc, nodes)? || !has_root(alloc, nodes)? || !has_counters(alloc, nodes)? {
         return Ok(None);
     }
     let path = path(alloc, NEXT_TABLE)?;
-    let Some(next) = counter_at(alloc, nodes, &path)? else {
+    let Some(next) = next_number(alloc, nodes, &path)? else {
         return Ok(None);
     };
     match read_nodes(alloc, nodes, next)? {

@@ -1,39 +1,18 @@
 // What the paths and values of nodes say.
-ghost use Rattle.std.specs.Prelude.{◌≡◌, ℕ, ◌≤◌, ◌<◌, Some, List, MatchBool, MatchOption, IfOk};
-ghost use Rattle.std.specs.Fmt.{decimal};
+ghost use Rattle.std.specs.Prelude.{◌≡◌, ℕ, List, MatchBool, MatchOption, IfOk};
 ghost use Rattle.row_keys.specs.Forms.{IsWordName};
-ghost use Rattle.table_store.specs.Numbers.{IsDrawn, IsDrawable};
+ghost use Rattle.table_store.specs.Numbers.{IsDrawn};
 ghost use Rattle.table_store.specs.Layout.{table_path, table_value};
 
 use crate::ids::number_of;
 use crate::nodes::{NO_MARK, ONLINE, TABLES};
 use row_keys::{TableId, TableName};
 use std::alloc::{AllocError, Global};
-use std::str;
 
 const MAX_ID: usize = 13;
 
 /// One past the greatest number that may be drawn next.
 pub const NUMBER_END: u64 = 1 << 63;
-
-fn parsed(value: &[u8]) -> Option<u64>
-    ensures { (number : ℕ) → IsDrawable number → value.now ≡ decimal number → result ≡ Some number }
-{
-    let text = str::from_utf8(value).ok()?;
-    text.parse().ok()
-}
-
-/// The number that a counter says, in decimal without leading zeros.
-pub fn counter_of(alloc: Global, value: &[u8]) -> Result<Option<u64>, AllocError>
-    ensures { IfOk result (λ found. MatchOption found ((number : ℕ) → IsDrawable number → value.now ≡ decimal number → ⊥) (λ number. IsDrawable number × (value.now ≡ decimal number))) }
-{
-    let Some(number) = parsed(value) else {
-        return Ok(None);
-    };
-    let spelled = number.to_string(alloc)?;
-    let is_counter = number > 0 && number < NUMBER_END && spelled.as_bytes() == value;
-    Ok(is_counter.then_some(number))
-}
 
 /// Whether the id is that of a number drawn before `next`.
 fn is_drawn(next: u64, id: &[u8]) -> bool

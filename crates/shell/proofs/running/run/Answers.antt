@@ -1,12 +1,20 @@
-use Rattle.std.proofs.Common.{⊎_elim, ap, rules}
+use Rattle.std.proofs.Common.{inl, inr, ⊎_elim, ◌∙◌, ap, rules}
+use Rattle.shell.proofs.WordsLemmas.{same_init}
 use Rattle.shell.proofs.HeadlineLemmas.{headline}
 use Rattle.shell.proofs.MeetsLemmas.{meets}
 use Rattle.shell.proofs.CompleteLemmas.{complete, complete_unbegun}
 use Rattle.shell.proofs.UnbegunLemmas.{headline_unbegun, meets_unbegun}
 use Rattle.shell.proofs.running.run.Goals as goal
+use Rattle.shell.proofs.running.run.Goals.{in-Ok, in-Err-Usage, in-Err-NoMemory}
 
 pub returns-clause-runs : goal.returns-clause-runs
-returns-clause-runs g c = search rules
+returns-clause-runs g c form is = elim c.match-read_words.branch [
+  | in-Ok w ↦
+      let own = rw w.in-Ok.is at c.read_words.ensures.form in
+      inl (rw (w.outcome-is, w.host-is, same_init c.args.words.now form w.in-Ok.form is own) w.run_store-outcome.ensures)
+  | in-Err-Usage w ↦ search rules
+  | in-Err-NoMemory w ↦ inr (record { outcome_is = w.outcome-is ∙ w.stopped-outcome.ensures; same = w.host-is })
+]
 
 pub returns-clause-meets : goal.returns-clause-meets
 returns-clause-meets g c form is faithful tables begins =

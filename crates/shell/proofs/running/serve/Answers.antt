@@ -4,8 +4,9 @@ use Rattle.host_model.proofs.CallsLemmas.{keeps-then, still_honest, on_ok_of}
 use Rattle.script_source.proofs.HearingLemmas.{listens-refl}
 use Rattle.host_model.specs.declared.fault.Stop.TheVariants.{NoMemory}
 use Rattle.shell.proofs.ScriptLemmas.{served_start}
-use Rattle.shell.proofs.StepLemmas.{served_more, sure_after, heard_rests}
-use Rattle.shell.proofs.EndLemmas.{fronts, all_served, stopped_hearing, stopped_line, line_fronts, refusal_ended, refusal_fronts, refusal_counts, over_long, over_many}
+use Rattle.shell.proofs.ReadableLemmas.{stays_refl}
+use Rattle.shell.proofs.StepLemmas.{served_more, sure_after, heard_rests, heard_readable, line_readable}
+use Rattle.shell.proofs.EndLemmas.{fronts, all_served, stopped_hearing, stopped_line, line_fronts, refusal_ended, refusal_fronts, refusal_readable, refusal_counts, over_long, over_many}
 use Rattle.shell.proofs.running.serve.Goals as goal
 
 pub returns-in_err-script-clause-ended : goal.returns-in_err-script-clause-ended
@@ -13,6 +14,9 @@ returns-in_err-script-clause-ended g c =
     let p = err_from_is_err_and c.from_residual.result c.from_residual.ensures.1 in
     let sound = g.met.H.Host.sound c.args.host.now in
     rw (p.1, p.2) (λ f. rw c.requires.lines (stopped_hearing sound sound (served_start c.args.store.now _ sound c.requires.running c.requires.doubt c.requires.history c.requires.sure) (listens-refl _) NoMemory tt f))
+
+pub returns-in_err-script-clause-readable : goal.returns-in_err-script-clause-readable
+returns-in_err-script-clause-readable g c = stays_refl (g.met.H.Host.sound c.args.host.now)
 
 pub returns-in_err-next_line-clause-ended : goal.returns-in_err-next_line-clause-ended
 returns-in_err-next_line-clause-ended g c =
@@ -100,5 +104,46 @@ returns g c =
       ended = refusal_ended sound now served listens mid 100001 number_is over refuses;
       stops = IfErr-weaker c.refuse_line-in_default.result _ _ (refusal_counts sound now served listens mid 100001 number_is over refuses) refuses.stops;
       crash = refusal_fronts sound now served listens mid 100001 number_is over refuses;
+      readable = refusal_readable sound now served listens mid 100001 number_is over refuses;
       rests = λ h rests. on_ok_of c.refuse_line-in_default.result (refuses.rests (still_honest listens.keeps (still_honest served.keeps h)) (heard_rests sound now served listens h rests));
+    }
+
+pub returns-in_err-next_line-clause-readable : goal.returns-in_err-next_line-clause-readable
+returns-in_err-next_line-clause-readable g c = heard_readable (g.met.H.Host.sound c.args.host.now) (g.met.H.Host.sound c.loop-number.host) c.loop-number.invariant.served c.in_err-next_line.ensures.listens
+
+pub returns-in-End-clause-readable : goal.returns-in-End-clause-readable
+returns-in-End-clause-readable g c = heard_readable (g.met.H.Host.sound c.args.host.now) (g.met.H.Host.sound c.loop-number.host) c.loop-number.invariant.served c.in_ok-next_line.ensures.listens
+
+pub returns-in_err-next_line-2-clause-readable : goal.returns-in_err-next_line-2-clause-readable
+returns-in_err-next_line-2-clause-readable g c = heard_readable (g.met.H.Host.sound c.args.host.now) (g.met.H.Host.sound c.loop-number.host) c.loop-number.invariant.served c.in_err-next_line-2.ensures.listens
+
+pub returns-in-End-2-clause-readable : goal.returns-in-End-2-clause-readable
+returns-in-End-2-clause-readable g c = heard_readable (g.met.H.Host.sound c.args.host.now) (g.met.H.Host.sound c.loop-number.host) c.loop-number.invariant.served c.in_ok-next_line-2.ensures.listens
+
+pub returns-in-TooLong-clause-readable : goal.returns-in-TooLong-clause-readable
+returns-in-TooLong-clause-readable g c =
+    let sound = g.met.H.Host.sound c.args.host.now in
+    let now = g.met.H.Host.sound c.loop-number.host in
+    let served = c.loop-number.invariant.served in
+    let listens = c.in_ok-next_line.ensures.listens in
+    refusal_readable sound now served listens (g.met.H.Host.sound c.next_line.new.host) _ c.loop-number.invariant.next (over_long sound now served listens (rw c.in-TooLong.is at c.in_ok-next_line.ensures.takes)) c.refuse_line.ensures
+
+pub returns-in_err-serve_line-in-Line-clause-readable : goal.returns-in_err-serve_line-in-Line-clause-readable
+returns-in_err-serve_line-in-Line-clause-readable g c =
+    let takes = rw (c.in-Line.is, ← c.deref.ensures.value) at c.in_ok-next_line.ensures.takes in
+    let few : c.loop-number.lines + 1 ≤ 100000 = omega (arith, c.loop-number-test.true, c.loop-number.invariant.next) in
+    line_readable (g.met.H.Host.sound c.args.host.now) (g.met.H.Host.sound c.loop-number.host) c.loop-number.invariant.served c.in_ok-next_line.ensures.listens (g.met.H.Host.sound c.next_line.new.host) takes _ c.loop-number.invariant.next few c.in_err-serve_line-in-Line.ensures
+
+pub returns-in_err-script-clause-crash : goal.returns-in_err-script-clause-crash
+returns-in_err-script-clause-crash g c =
+    let sound = g.met.H.Host.sound c.args.host.now in
+    fronts sound sound (served_start c.args.store.now _ sound c.requires.running c.requires.doubt c.requires.history c.requires.sure) (listens-refl _)
+
+pub loop-number-init : goal.loop-number-init
+loop-number-init g c =
+    let sound = g.met.H.Host.sound c.args.host.now in
+    record {
+      next = omega (arith, c.requires.lines);
+      hearing = rw c.in_ok-script.ensures refl;
+      served = rw (c.requires.lines, c.in_ok-script.ensures) (served_start c.args.store.now _ sound c.requires.running c.requires.doubt c.requires.history c.requires.sure);
     }

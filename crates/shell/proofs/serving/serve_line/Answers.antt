@@ -1,7 +1,7 @@
 use Rattle.std.proofs.Common.{◌∙◌}
 use Rattle.std.proofs.lemmas.Result.{err_from_is_err_and}
 use Rattle.shell.proofs.LineLemmas.{does_stop}
-use Rattle.shell.proofs.ServeLemmas.{stops_first, unspelled, serves_all, unsaid, at_line}
+use Rattle.shell.proofs.ServeLemmas.{stops_first, serves_blank, unspelled, serves_all, unsaid, at_line}
 use Rattle.shell.proofs.serving.serve_line.Goals as goal
 
 pub returns-in_err-answer : goal.returns-in_err-answer
@@ -27,3 +27,6 @@ pub returns-in_err-line : goal.returns-in_err-line
 returns-in_err-line g c =
     let p = err_from_is_err_and c.from_residual.result c.from_residual.ensures.1 in
     rw (p.1, p.2) (stops_first _ _ _ _ _ _ (Unit {0}) _ (does_stop _ _ _ _ (g.met.H.Host.sound c.args.host.now) c.requires.sure c.requires.doubt))
+
+pub returns-in_default : goal.returns-in_default
+returns-in_default g c = at_line c.in_ok-line.ensures (serves_blank _ _ _ _ _ _ _ (rw c.in_default.is at c.in_ok-answer.ensures))

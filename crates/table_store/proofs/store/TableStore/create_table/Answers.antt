@@ -4,15 +4,16 @@ use Rattle.host_model.specs.declared.fault.Stop.{Stop}
 use Rattle.node_store.specs.Nodes.{multi_applied}
 use Rattle.node_store.specs.Image.{IsNodeFile, IsStored}
 use Rattle.table_store.specs.Numbers.{base36}
-use Rattle.table_store.specs.Layout.{nodes_name, create_ops}
+use Rattle.store_layout.specs.Names.{nodes_name}
+use Rattle.table_store.specs.Layout.{create_ops}
 use Rattle.table_store.specs.Reading.{IsReading}
-use Rattle.table_store.specs.Kept.{IsKept}
+use Rattle.table_store.specs.Kept.{SaysTables}
 use Rattle.table_store.specs.Inside.{view_of}
 use Rattle.table_store.specs.StoreValue.{StoreValue, MayCreate, Creates, entry_of}
 use Rattle.table_store.specs.Appending.{Applies}
 use Rattle.table_store.proofs.TablesLemmas.{applies_created, reading_created}
 use Rattle.table_store.proofs.AltersMore.{alters_nothing, alters_ok, alters_failed}
-use Rattle.table_store.proofs.CreatingLemmas.{kept_stored, kept_created, may_create_nothing, alters_created, entries_after, few_after, within_after, committed_after, unnamed_after, create_stops}
+use Rattle.table_store.proofs.CreatingLemmas.{says_stored, says_created, may_create_nothing, alters_created, entries_after, few_after, within_after, committed_after, unnamed_after, create_stops}
 use Rattle.table_store.proofs.store.TableStore.create_table.Goals as goal
 
 pub returns-in-Some-clause-alters : goal.returns-in-Some-clause-alters
@@ -20,13 +21,13 @@ returns-in-Some-clause-alters g c = λ free.
     let tables = c.args.self.now.tables in
     alters_nothing (IsNodeFile nodes_name) (MayCreate c.args.name tables) (Creates c.args.name tables) {T = Bool} c.again.result (g.H.Host.state c.args.host.now) (may_create_nothing c.args.name tables)
 
-pub returns-then-contains-clause-kept : goal.returns-then-contains-clause-kept
-returns-then-contains-clause-kept g c = λ faithful.
+pub returns-then-contains-clause-says : goal.returns-then-contains-clause-says
+returns-then-contains-clause-says g c = λ faithful.
     let inside = c.self.inside in
     let files = (g.H.Host.state c.args.host.now).files in
     let running : c.args.self.now.stop ≡ None = ap (λ (v : StoreValue). v.stop) (sym c.self.view_is) ∙ c.in_default.is in
     let stored = subst (λ (v : StoreValue). IsStored v.nodes files) (sym c.self.view_is) (c.requires.stored running faithful) in
-    subst (λ (v : StoreValue). IsKept files v.tables) c.self.view_is (kept_stored inside.nodes (view_of inside).tables files c.self.invariant.name (c.self.invariant.reading c.in_default.is) stored)
+    subst (λ (v : StoreValue). SaysTables files v.tables) c.self.view_is (says_stored inside.nodes (view_of inside).tables files c.self.invariant.name (c.self.invariant.reading c.in_default.is) stored)
 
 pub returns-in-Err-clause-alters : goal.returns-in-Err-clause-alters
 returns-in-Err-clause-alters g c = λ free.
@@ -99,14 +100,14 @@ invariant_of-self-in-Ok-commit g c =
           (reading_created inside.nodes.nodes (view_of inside).tables c.args.name (c.self.invariant.reading c.in_default.is) free c.commit.new.nodes.nodes c.in-Ok.ensures.named c.in-Ok.ensures.below applied);
     }
 
-pub returns-in-Ok-commit-clause-kept : goal.returns-in-Ok-commit-clause-kept
-returns-in-Ok-commit-clause-kept g c = λ faithful.
+pub returns-in-Ok-commit-clause-says : goal.returns-in-Ok-commit-clause-says
+returns-in-Ok-commit-clause-says g c = λ faithful.
     let inside = c.self.inside in
     let files = (g.H.Host.state c.commit.new.host).files in
     let free = sym c.contains.ensures ∙ c.if-contains.false in
     let applied = subst (λ o. multi_applied o inside.nodes.nodes ≡ Ok c.commit.new.nodes.nodes) (c.deref.ensures.value ∙ c.in-Ok.ensures.ops) c.in-Ok-commit.ensures.ok in
-    subst (λ m. IsKept files (record { by_name = m; next = inside.next + 1 })) (sym c.in-Ok.ensures.added)
-    (kept_created inside.nodes (view_of inside).tables c.args.name c.self.invariant.name (c.self.invariant.reading c.in_default.is) free c.in-Ok.ensures.named c.in-Ok.ensures.below c.commit.new.nodes files
+    subst (λ m. SaysTables files (record { by_name = m; next = inside.next + 1 })) (sym c.in-Ok.ensures.added)
+    (says_created inside.nodes (view_of inside).tables c.args.name c.self.invariant.name (c.self.invariant.reading c.in_default.is) free c.in-Ok.ensures.named c.in-Ok.ensures.below c.commit.new.nodes files
     (c.in-Ok-commit.ensures.name ∙ c.self.invariant.name) applied (c.in-Ok-commit.ensures.stored faithful))
 
 pub returns-in-Ok-commit-clause-alters : goal.returns-in-Ok-commit-clause-alters
