@@ -53,6 +53,8 @@ fn main(rt: HostRuntime) -> ExitCode {
 }
 
 #[cfg(test)]
+mod action_tests;
+#[cfg(test)]
 mod data_file_tests;
 #[cfg(test)]
 mod log_tests;

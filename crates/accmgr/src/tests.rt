@@ -5,7 +5,9 @@ mod damage;
 mod faults;
 mod limits;
 mod names;
+mod new_store;
 mod runs;
+mod store_bytes;
 
 use host_model::{Host, HostFault, Name, Stop};
 use memory_host::{MemoryHost, Pick};
@@ -26,6 +28,9 @@ const TABLES: &[u8] = b"tables\n";
 const NO_TABLE: &[u8] = b"1 rows 0\n";
 
 const ONE_TABLE: &[u8] = b"1 = t 1\n1 rows 1\n";
+
+// The first file of the root tablet.
+const ROOT_NAME: &str = "+r,root_tablet,A0000001.rf";
 
 // How a run ended, and the host that it handed back.
 #[derive(Drop)]
@@ -92,13 +97,19 @@ fn write_at<H: Host>(host: &mut H, name: &Name, at: u64, bytes: &[u8]) -> Result
     }
 }
 
+// Makes a file of this name with these bytes.
+fn put(alloc: Global, host: &mut MemoryHost, text: &str, bytes: &[u8]) -> Result<(), Stop> {
+    if let Some(name) = Name::new(alloc, text)? {
+        host.create(&name)?;
+        write_at(host, &name, 0, bytes)?;
+        host.sync(&name)?;
+    }
+    Ok(())
+}
+
 // A disk on which the file of the nodes has these bytes.
 fn disk_of(alloc: Global, nodes: &[u8]) -> Result<MemoryHost, Stop> {
     let mut host = MemoryHost::new(alloc, b"", &[], None)?;
-    if let Some(name) = Name::new(alloc, "nodes")? {
-        host.create(&name)?;
-        write_at(&mut host, &name, 0, nodes)?;
-        host.sync(&name)?;
-    }
+    put(alloc, &mut host, "nodes", nodes)?;
     Ok(host)
 }

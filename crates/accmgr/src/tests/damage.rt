@@ -1,56 +1,53 @@
 // Files of the nodes that were cut or changed.
-use super::{Ended, NO_TABLE, ONE_TABLE, OPEN, disk_of, next};
+use super::store_bytes::{NEW_NODES, ROOT_FILE, TABLE_NODES};
+use super::{Ended, NO_TABLE, ONE_TABLE, OPEN, ROOT_NAME, disk_of, next, put};
 use host_model::Stop;
 use memory_host::Pick;
 use std::alloc::{AllocError, Global};
 use std::test::Fail;
 
-// The records of a new store and of its table `t`, as the formats have them.
-const NODES: [&[u8]; 9] = [
-    b"\x01\x00\x00\x00\x78\x00\x00\x00\x06",
-    b"\x01\x00\x09/instance\x00\x00\x00\x08accmgr 1",
-    b"\x01\x00\x0b/next/table\x00\x00\x00\x011\x01\x00\x08/next/tx\x00\x00\x00\x011",
-    b"\x01\x00\x0a/next/name\x00\x00\x00\x011\x01\x00\x0d/next/session\x00\x00\x00\x011",
-    b"\x01\x00\x0a/next/lock\x00\x00\x00\x011",
-    b"\x01\x00\x00\x00\x31\x00\x00\x00\x02",
-    b"\x02\x00\x0b/next/table\x00\x00\x00\x012",
-    b"\x01\x00\x09/tables/1\x00\x00\x00\x0aONLINE t -",
-    b"\x00",
-];
-
-// The gate of the second record: the first has a payload of 120 bytes.
-const SECOND_GATE: usize = 125;
+// The gate of the second record: the first has a payload of 225 bytes.
+const SECOND_GATE: usize = 230;
 
 // The bytes of the whole file.
-const SIZE: usize = 180;
+const SIZE: usize = 285;
 
 // Bytes of the first record's multi that make it none, or one of no store: their offsets, and what stands there.
-const CHANGES: [(usize, u8); 8] = [
-    (8, 5),
-    (8, 7),
+const CHANGES: [(usize, u8); 9] = [
+    (8, 6),
+    (8, 8),
     (9, 0),
     (9, 2),
     (9, 4),
     (11, 0),
     (12, b'.'),
     (32, b'2'),
+    (37, b'R'),
 ];
 
-// The file with this byte at this offset.
-fn changed(alloc: Global, at: usize, byte: u8) -> Result<Vec<u8>, AllocError> {
+fn joined(alloc: Global, parts: &[&[u8]]) -> Result<Vec<u8>, AllocError> {
     let mut bytes = Vec::new(alloc);
-    for part in NODES {
-        bytes.extend_from_slice(part)?;
+    for part in parts {
+        bytes.extend_from_slice(*part)?;
     }
+    Ok(bytes)
+}
+
+// The file of the nodes with this byte at this offset.
+fn changed(alloc: Global, at: usize, byte: u8) -> Result<Vec<u8>, AllocError> {
+    let mut bytes = joined(alloc, &NEW_NODES)?;
+    bytes.extend_from_slice(&joined(alloc, &TABLE_NODES)?)?;
     if let Some(place) = bytes.get_mut(at) {
         *place = byte;
     }
     Ok(bytes)
 }
 
-// A run over a disk with this file.
+// A run over a disk with this file, and the first one of the root tablet.
 fn opened(alloc: Global, nodes: &[u8]) -> Result<Ended, Stop> {
-    Ok(next(alloc, disk_of(alloc, nodes)?, Pick::Kept, &OPEN)?)
+    let mut host = disk_of(alloc, nodes)?;
+    put(alloc, &mut host, ROOT_NAME, &joined(alloc, &ROOT_FILE)?)?;
+    Ok(next(alloc, host, Pick::Kept, &OPEN)?)
 }
 
 // Whether there is no store, and where there is more than one byte the file is damaged.
