@@ -45,7 +45,7 @@ pub stop_is : {S : Type 0} (spelled : S → StepWords) (e : StepStop) (stop : St
 stop_is {S} spelled e stop P is did = subst (λ n. IfStops {S = S} (Err n) P) is did
 
 module _ {E S : Type 0} {kstate : E → HostState} {book : Picture → ℕ → Book} {alike : Picture → Picture → Type 0} {kspelled : S → StepWords} {ksuits : S → List ℕ → Type 0}
-    {state : E → HostState} {m : Meaning} {spelled : S → StepWords} {suits : S → List ℕ → Type 0} (agree : Agrees kstate book alike kspelled ksuits state m spelled suits)
+    {state : E → HostState} {m : Meaning} {spelled : S → StepWords} {suits : S → List ℕ → Type 0} {text : S → StepWords} {text_suits : S → List ℕ → Type 0} (agree : Agrees kstate book alike kspelled ksuits state m spelled suits text text_suits)
     (lawful : IsLawful m) (sound : (e : E) → IsSound (state e)) (first_reason : S → ℕ → Going → E → Option Reason) (answer : S → ℕ → E → Result (Next S) Cause) (t : ℕ) where
   abbrev pub Rule : E → Turned → Book → Type 0
   Rule e = IsTurn spelled suits first_reason answer t e (m.book (picture_now (state e)) t)

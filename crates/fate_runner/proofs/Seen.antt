@@ -53,8 +53,8 @@ acts_seen {result = result} wanted_during wanted {ka = ka} {kb = kb} {sa = sa} {
 }
 
 module _ {E S : Type 0} {state : E → HostState} {book : Picture → ℕ → Book} {alike : Picture → Picture → Type 0} {spelled : S → StepWords} {suits : S → List ℕ → Type 0}
-    {step_state : E → HostState} {m : Meaning} {step_spelled : S → StepWords} {step_suits : S → List ℕ → Type 0}
-    (agree : Agrees state book alike spelled suits step_state m step_spelled step_suits) where
+    {step_state : E → HostState} {m : Meaning} {step_spelled : S → StepWords} {step_suits : S → List ℕ → Type 0} {text : S → StepWords} {text_suits : S → List ℕ → Type 0}
+    (agree : Agrees state book alike spelled suits step_state m step_spelled step_suits text text_suits) where
   -- the book of a transaction, as both see it
   pub book_seen : (t : ℕ) (e : E) → book (picture_now (state e)) t ≡ m.book (picture_now (step_state e)) t
   book_seen t e = agree.books (picture_now (state e)) t ∙ ap (λ p. m.book p t) (now_agrees (agree.states e))

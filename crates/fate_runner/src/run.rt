@@ -8,16 +8,16 @@ ghost use Rattle.fate_runner.specs.Turn.{IsTurn, Takes};
 ghost use Rattle.fate_runner.specs.Passing.{Passed, Stopped};
 ghost use Rattle.fate_runner.specs.declared.forms.TxStatus.TheVariants.{Submitted, InProgress, FailedInProgress};
 
-use crate::{Going, Next, Ready, Stacks, Step, StepStop, Turned, TxStatus};
+use crate::{Going, Next, Ready, Stacks, Step, StepStop, StepText, Turned, TxStatus};
 use host_model::Stop;
 
 // The turn of a transaction that has not begun.
-fn start<E, S: Step<E>, K: Stacks<E, S>>(
+fn start<E, S: Step<E> + StepText, K: Stacks<E, S>>(
     tid: u64,
     stacks: &mut K,
     env: &mut E,
 ) -> Result<Turned, Stop>
-    requires agree { Agrees K.state K.book K.alike K.spelled K.suits S.state S.meaning S.spelled S.suits }
+    requires agree { Agrees K.state K.book K.alike K.spelled K.suits S.state S.meaning S.spelled S.suits S.text S.text_suits }
     requires goes_on { GoesOn K.live K.beside S.live S.able }
     requires able { S.able env.old }
     requires status { IsTrue (S.state env.old).is_faithful → (S.meaning.book (picture_now (S.state env.old)) tid).status ≡ Some Submitted }
@@ -31,12 +31,12 @@ fn start<E, S: Step<E>, K: Stacks<E, S>>(
 }
 
 // The turn of a transaction that goes forward.
-fn forward<E, S: Step<E>, K: Stacks<E, S>>(
+fn forward<E, S: Step<E> + StepText, K: Stacks<E, S>>(
     tid: u64,
     stacks: &mut K,
     env: &mut E,
 ) -> Result<Turned, Stop>
-    requires agree { Agrees K.state K.book K.alike K.spelled K.suits S.state S.meaning S.spelled S.suits }
+    requires agree { Agrees K.state K.book K.alike K.spelled K.suits S.state S.meaning S.spelled S.suits S.text S.text_suits }
     requires goes_on { GoesOn K.live K.beside S.live S.able }
     requires able { S.able env.old }
     requires status { IsTrue (S.state env.old).is_faithful → (S.meaning.book (picture_now (S.state env.old)) tid).status ≡ Some InProgress }
@@ -70,12 +70,12 @@ fn forward<E, S: Step<E>, K: Stacks<E, S>>(
 }
 
 // The turn of a transaction that goes back.
-fn back<E, S: Step<E>, K: Stacks<E, S>>(
+fn back<E, S: Step<E> + StepText, K: Stacks<E, S>>(
     tid: u64,
     stacks: &mut K,
     env: &mut E,
 ) -> Result<Turned, Stop>
-    requires agree { Agrees K.state K.book K.alike K.spelled K.suits S.state S.meaning S.spelled S.suits }
+    requires agree { Agrees K.state K.book K.alike K.spelled K.suits S.state S.meaning S.spelled S.suits S.text S.text_suits }
     requires goes_on { GoesOn K.live K.beside S.live S.able }
     requires able { S.able env.old }
     requires status { IsTrue (S.state env.old).is_faithful → (S.meaning.book (picture_now (S.state env.old)) tid).status ≡ Some FailedInProgress }
@@ -105,16 +105,17 @@ fn back<E, S: Step<E>, K: Stacks<E, S>>(
 /// same action; at a failure it goes back from now on. Going back, its top step is asked back, undone and popped; with an
 /// empty stack the transaction has failed.
 ///
-/// What the caller has seen of the transaction says that it is unfinished: `Stacks::status` and `Stacks::top` tell it. Each
-/// stop is that of a call which the turn made. Also after a stop, and after a crash at any moment inside, the transaction
+/// What the caller has seen of the transaction says that it is unfinished: `Stacks::status` and `Stacks::top` tell it. Stacks,
+/// steps and their text agree on how a step is spelled. Each stop is that of a call which the turn made; an environment that
+/// has stopped answers its stop again, and is asked nothing. Also after a stop, and after a crash at any moment inside, the transaction
 /// is as before the turn or as the rule gives it, it fits what is stored of it, and each other transaction has what it
 /// relies on. At most five calls of steps and stacks, and no memory but theirs.
-pub fn turn<E, S: Step<E>, K: Stacks<E, S>>(
+pub fn turn<E, S: Step<E> + StepText, K: Stacks<E, S>>(
     tid: u64,
     stacks: &mut K,
     env: &mut E,
 ) -> Result<Turned, Stop>
-    requires agree { Agrees K.state K.book K.alike K.spelled K.suits S.state S.meaning S.spelled S.suits }
+    requires agree { Agrees K.state K.book K.alike K.spelled K.suits S.state S.meaning S.spelled S.suits S.text S.text_suits }
     requires goes_on { GoesOn K.live K.beside S.live S.able }
     requires able { S.able env.old }
     requires unfinished { IsUnfinished (K.shown env.old tid) }
@@ -122,7 +123,7 @@ pub fn turn<E, S: Step<E>, K: Stacks<E, S>>(
     ensures passes { OnOk result (Passed S.same S.calls S.undoes K.beside S.able tid env.old env.new) }
     ensures live { OnOk result (K.live env.new) }
     ensures stops { IfErr result (λ stop. Stopped S.same S.calls S.undoes K.stops S.stops tid stop env.old env.new) }
-    ensures dead { (stop : Stop) → K.dead env.old stop → result ≡ Err stop }
+    ensures dead { (stop : Stop) → K.dead env.old stop → (result ≡ Err stop) × (env.new ≡ env.old) }
 {
     match stacks.status(tid, env)? {
         Some(TxStatus::Submitted) => start(tid, stacks, env),

@@ -20,7 +20,8 @@ use host_model::Stop;
 ///
 /// Each picture inside the work of a step leaves what is stored of transactions as it was, still fits the same stack, and
 /// leaves each other transaction what it relies on. At its end the picture fits both the old stack and the one that comes
-/// next, so a step whose push or pop was lost is taken again.
+/// next, so a step whose push or pop was lost is taken again. Over an environment that has stopped for good each call asks
+/// nothing and changes nothing; what it answers may be the stop, want of memory, or what it knows without asking.
 pub trait Step<E>: Sized + Drop {
     /// The disk, as contracts see it.
     ghost state: { E → HostState };
@@ -58,13 +59,17 @@ pub trait Step<E>: Sized + Drop {
     /// A call from the one environment to the other may stop so.
     ghost stops: { Stop → E → E → Type 0 };
 
+    /// The environment has answered this stop for good.
+    ghost dead: { E → Stop → Type 0 };
+
     /// The first reason against taking the step this way, if there is one. Writes nothing.
     fn is_ready(&self, tid: u64, env: &mut E, going: Going) -> Result<Ready, Stop>
         requires { able env.old }
         ensures looks { Looks (state env.old) (state env.new) }
         ensures same { OnOk result (same env.old env.new) }
         ensures ready { IsTrue (state env.old).is_faithful → IsKept meaning (picture_now (state env.old)) → IfOk result (λ ready. ready ≡ ready_of (first_reason self.now tid going env.old)) }
-        ensures stops { IfErr result (λ stop. stops stop env.old env.new) };
+        ensures stops { IfErr result (λ stop. stops stop env.old env.new) }
+        ensures dead { (stop : Stop) → dead env.old stop → env.new ≡ env.old };
 
     /// Does the work of the step, and names the next one. No reason holds against it.
     fn call(&self, tid: u64, env: &mut E) -> Result<Next<Self>, StepStop>
@@ -78,7 +83,8 @@ pub trait Step<E>: Sized + Drop {
         ensures suits { IsTop (spelled self.now) (suits self.now) InProgress (meaning.book (picture_now (state env.old)) tid) → IsTrue (state env.old).is_faithful → Suits suits (meaning.book (picture_now (state env.old)) tid).kind result }
         ensures calls { UnlessStops result (calls self.now tid env.old env.new) }
         ensures live { UnlessStops result (live env.new) }
-        ensures stops { IfStops result (λ stop. stops stop env.old env.new) };
+        ensures stops { IfStops result (λ stop. stops stop env.old env.new) }
+        ensures dead { (stop : Stop) → dead env.old stop → env.new ≡ env.old };
 
     /// Undoes what the step did, or any part of it. No reason holds against it.
     fn undo(&self, tid: u64, env: &mut E) -> Result<(), Stop>
@@ -89,7 +95,8 @@ pub trait Step<E>: Sized + Drop {
             → Works meaning tid (undone_book (meaning.book (picture_now (state env.old)) tid) result) (state env.old) (state env.new) }
         ensures undoes { OnOk result (undoes self.now tid env.old env.new) }
         ensures live { OnOk result (live env.new) }
-        ensures stops { IfErr result (λ stop. stops stop env.old env.new) };
+        ensures stops { IfErr result (λ stop. stops stop env.old env.new) }
+        ensures dead { (stop : Stop) → dead env.old stop → env.new ≡ env.old };
 
     ghost sound: { (env : E) → IsSound (state env) };
 

@@ -17,17 +17,17 @@ pub struct StepWords {
 /// Steps that nodes spell. Some are spelled alike in transactions of several kinds, so a step is read for a kind.
 pub trait StepText: Sized {
     /// How nodes spell a step.
-    ghost spelled: { Self → StepWords };
+    ghost text: { Self → StepWords };
 
     /// The step may stand in transactions of this kind.
-    ghost suits: { Self → List ℕ → Type 0 };
+    ghost text_suits: { Self → List ℕ → Type 0 };
 
     /// The step commits, or stands after one that does.
     ghost is_past: { Self → Bool };
 
     /// How nodes spell this step. Takes memory for it.
     fn write_text(&self, alloc: Global) -> Result<StepWords, AllocError>
-        ensures { IfOk result (λ found. found ≡ spelled self.now) };
+        ensures { IfOk result (λ found. found ≡ text self.now) };
 
     /// The step of this kind that is spelled so, and none exactly where no step of this kind is. Takes memory for it.
     fn read_text(
@@ -35,11 +35,11 @@ pub trait StepText: Sized {
         kind: &Octets,
         words: &StepWords,
     ) -> Result<Option<Self>, AllocError>
-        ensures { IfOk result (λ found. MatchOption found ((step : Self) → suits step kind.now → spelled step ≢ words.now) (λ step. suits step kind.now × (spelled step ≡ words.now))) };
+        ensures { IfOk result (λ found. MatchOption found ((step : Self) → text_suits step kind.now → text step ≢ words.now) (λ step. text_suits step kind.now × (text step ≡ words.now))) };
 
     /// Whether the step commits, or stands after one that does. Takes no memory.
     fn past_commit(&self) -> bool
         ensures { result ≡ is_past self.now };
 
-    ghost one_spelling: { (one two : Self) (kind : List ℕ) → suits one kind → suits two kind → spelled one ≡ spelled two → one ≡ two };
+    ghost one_spelling: { (one two : Self) (kind : List ℕ) → text_suits one kind → text_suits two kind → text one ≡ text two → one ≡ two };
 }
