@@ -1,0 +1,12 @@
+pub mod DecodingLemmas
+pub mod Values
+pub mod SiteLemmas
+pub mod ReadyLemmas
+pub mod BookLemmas
+pub mod StackLemmas
+pub mod StatusLemmas
+pub mod TopLemmas
+pub mod PartLemmas
+pub mod WorkLemmas
+pub mod TurnLemmas
+pub mod LevelLemmas
