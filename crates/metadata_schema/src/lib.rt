@@ -35,6 +35,7 @@ pub use laws::{
     rows_have_one_record, updates_lead_to_the_new_columns,
 };
 pub use mutation::{Mutation, Update, Updates};
+pub use paths::{is_drawn_text, is_file_path};
 pub use reading::record_of;
 pub use state::{TabletState, tablet_state};
 pub use tablet::{

@@ -30,8 +30,9 @@ fn is_file_kind(byte: u8) -> bool
     byte == b'F' || byte == b'C' || byte == b'A' || byte == b'I'
 }
 
-/// Whether this is a drawn number in upper-case base 36, padded to seven digits.
-fn is_drawn_text(text: &[u8]) -> bool
+/// Whether this is a drawn number in upper-case base 36, padded to seven digits. Takes no memory; time goes with its length.
+/// This project's own.
+pub fn is_drawn_text(text: &[u8]) -> bool
     ensures { MatchBool result (IsDrawnText text.now) (IsDrawnText text.now → ⊥) }
 {
     match text {
@@ -75,8 +76,9 @@ fn is_file_name(bytes: &[u8]) -> bool
     is_drawn_text(text)
 }
 
-/// Whether this is the path of a data file. Takes no memory; time goes with its length.
-pub(crate) fn is_file_path(bytes: &[u8]) -> bool
+/// Whether this is the path of a data file: a table's id, a directory and a name, with a slash between each two. Takes no
+/// memory; time goes with its length. This project's own.
+pub fn is_file_path(bytes: &[u8]) -> bool
     ensures { MatchBool result (IsFilePath bytes.now) (IsFilePath bytes.now → ⊥) }
 {
     let Some((id, rest)) = parted(bytes, b'/') else {
