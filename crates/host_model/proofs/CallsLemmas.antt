@@ -8,6 +8,7 @@ use Rattle.host_model.specs.Picture.{Image, Same, file_at}
 use Rattle.host_model.proofs.MovesLemmas.{started, goes_on}
 use Rattle.host_model.specs.State.{Faults, HostState}
 use Rattle.host_model.specs.Calls.{NoneFalls, Counted, Faulted, Keeps, IsQuiet, HasCause, Looks, Asks, IsPart}
+use Rattle.host_model.specs.declared.call.HostCall.{HostCall}
 use Rattle.host_model.specs.declared.fault.HostFault.{HostFault}
 use Rattle.host_model.specs.declared.fault.HostFault.TheVariants.{Disk, Source, Sink, Memory}
 
@@ -75,7 +76,7 @@ on_ok_of (Err e) p = tt
 pub looks-refl : (s : HostState) → Looks s s
 looks-refl s = record { quiet = quiet-refl s; same = λ f. refl; moves = λ h. started s }
 
-pub looks_more : {T : Type 0} {result : Result T HostFault} {a b c : HostState} → Looks a b → Asks result b c → Looks a c
+pub looks_more : {kind : HostCall} {T : Type 0} {result : Result T HostFault} {a b c : HostState} → Looks a b → Asks kind result b c → Looks a c
 looks_more {a = a} {b = b} {c = c} one two = record {
   quiet = quiet-then one.quiet two.quiet;
   same = λ f. two.same (still_faithful one.quiet.keeps f) ∙ one.same f;

@@ -7,6 +7,7 @@ use Rattle.host_model.specs.Moves.{Moves}
 use Rattle.host_model.specs.Calls.{IsSettled, IsSound, Writes, Syncs, Replaces, Torn, Puts, Reaches}
 use Rattle.host_model.specs.Stores.{Stores}
 use Rattle.host_model.specs.Leaves.{AllSettled}
+use Rattle.host_model.specs.declared.call.HostCall.{HostCall}
 use Rattle.host_model.specs.declared.fault.HostFault.{HostFault}
 use Rattle.host_model.proofs.Bytes.{length-overlaid}
 use Rattle.host_model.proofs.Images.{changes_twice, changes_nothing, change_weaker, after_change, step_of, file_then, file_weaker, file_nothing}
@@ -113,7 +114,7 @@ pub write_failed : {name : List ℕ} {at : ℕ} {bytes : List ℕ} (A : Option (
 write_failed A fault write = record { quiet = write.quiet; tried = write.tried; done = λ f. tt; moves = λ h s. write.moves h; settled = λ h. tt }
 
 -- a file made anew, or taken out
-pub replaced : {name : List ℕ} {file : Option (List ℕ)} {T : Type 0} {result : Result T HostFault} {old new : HostState} → IsSound old → Replaces name file result old new → Stores name (MayBecome file) (Becomes file) result old new
+pub replaced : {kind : HostCall} {name : List ℕ} {file : Option (List ℕ)} {T : Type 0} {result : Result T HostFault} {old new : HostState} → IsSound old → Replaces kind name file result old new → Stores name (MayBecome file) (Becomes file) result old new
 replaced {name} {file} {result = Err e} sound call = record { quiet = call.quiet; tried = call.tried; done = call.done; moves = λ h s. call.moves h; settled = λ h. tt }
 replaced {name} {file} {result = Ok u} {old = old} {new = new} sound call = record {
   quiet = call.quiet;

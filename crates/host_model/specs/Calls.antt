@@ -3,6 +3,8 @@ use Rattle.std.specs.Prelude.{◌≡◌, ℕ, Vec, ◌+◌, ◌-◌, ◌^◌, �
 use Rattle.host_model.specs.Picture.{Image, Picture, file_at, ChangesFile, OnBytes, Becomes, MayBecome, FileStep, Same, file_names}
 use Rattle.host_model.specs.State.{Faults, HostState, picture_now}
 use Rattle.host_model.specs.Moves.{Moves}
+use Rattle.host_model.specs.declared.call.HostCall.{HostCall}
+use Rattle.host_model.specs.declared.call.HostCall.TheVariants as call
 use Rattle.host_model.specs.declared.fault.HostFault.{HostFault}
 use Rattle.host_model.specs.declared.fault.Stop.{Stop}
 use Rattle.host_model.specs.declared.fault.Stop.TheVariants.{Host, Damaged, Full, NoMemory}
@@ -94,6 +96,7 @@ TearsFile name at n = FileStep name (OnBytes (Torn at n))
 pub record Writes (name : List ℕ) (at : ℕ) (bytes : List ℕ) {T : Type 0} (result : Result T HostFault) (old new : HostState) : Type 0 where
   pub quiet : IsQuiet old new
   pub began : new.before ≡ old.faults
+  pub last : new.last ≡ Some call.Write
   pub cause : HasCause result old new
   pub done : IsTrue old.is_faithful → OnOk result (ChangesFile name (OnBytes (Puts at bytes)) old.files new.files)
   pub tried : IsTrue old.is_faithful → ChangesFile name (OnBytes (Torn at (length bytes))) old.files new.files
@@ -106,25 +109,28 @@ pub record IsSettled (name : List ℕ) (state : HostState) : Type 0 where
 pub record Syncs (name : List ℕ) {T : Type 0} (result : Result T HostFault) (old new : HostState) : Type 0 where
   pub quiet : IsQuiet old new
   pub began : new.before ≡ old.faults
+  pub last : new.last ≡ Some call.Sync
   pub cause : HasCause result old new
   pub same : IsTrue old.is_faithful → new.files ≡ old.files
   pub moves : IsTrue old.is_honest → Moves Same Same old new
   pub settled : IsTrue old.is_honest → OnOk result (IsSettled name new)
 
--- the file is made this one, whole or not at all, and lasting on return
-pub record Replaces (name : List ℕ) (file : Option (List ℕ)) {T : Type 0} (result : Result T HostFault) (old new : HostState) : Type 0 where
+-- by a call of this kind the file is made this one, whole or not at all, and lasting on return
+pub record Replaces (kind : HostCall) (name : List ℕ) (file : Option (List ℕ)) {T : Type 0} (result : Result T HostFault) (old new : HostState) : Type 0 where
   pub quiet : IsQuiet old new
   pub began : new.before ≡ old.faults
+  pub last : new.last ≡ Some kind
   pub cause : HasCause result old new
   pub done : IsTrue old.is_faithful → OnOk result (ChangesFile name (Becomes file) old.files new.files)
   pub tried : IsTrue old.is_faithful → ChangesFile name (MayBecome file) old.files new.files
   pub moves : IsTrue old.is_honest → Moves (FileStep name (MayBecome file)) (FileStep name (MayBecome file)) old new
   pub lasting : IsTrue old.is_honest → OnOk result (Moves (FileStep name (MayBecome file)) (FileStep name (Becomes file)) old new)
 
--- a call that only asks of the files
-pub record Asks {T : Type 0} (result : Result T HostFault) (old new : HostState) : Type 0 where
+-- a call of this kind, which only asks of the files
+pub record Asks (kind : HostCall) {T : Type 0} (result : Result T HostFault) (old new : HostState) : Type 0 where
   pub quiet : IsQuiet old new
   pub began : new.before ≡ old.faults
+  pub last : new.last ≡ Some kind
   pub cause : HasCause result old new
   pub same : IsTrue old.is_faithful → new.files ≡ old.files
   pub moves : IsTrue old.is_honest → Moves Same Same old new
@@ -140,7 +146,7 @@ abbrev pub IsPart : List ℕ → ℕ → List ℕ → Type 0
 IsPart file at bytes = take (length bytes) (drop at file) ≡ bytes
 
 pub record Reads (name : List ℕ) (at : ℕ) (into : List ℕ) {T : Type 0} (result : Result T HostFault) (old new : HostState) : Type 0 where
-  pub asks : Asks result old new
+  pub asks : Asks call.Read result old new
   pub bytes : IsTrue old.is_faithful → OnOk result ((file : List ℕ) → file_at old.files name ≡ Some file → IsPart file at into)
 
 -- the said bytes gain a front of these
@@ -156,6 +162,7 @@ pub record Says (bytes : List ℕ) {T : Type 0} (result : Result T HostFault) (o
   pub tried : IsTrue old.is_faithful → SaysFront bytes (picture_now old) (picture_now new)
   pub moves : IsTrue old.is_honest → Moves (SaysFront bytes) (SaysFront bytes) old new
   pub began : new.before ≡ old.faults
+  pub last : new.last ≡ Some call.Say
   pub counted : IfErr result (λ fault. IsOfSink fault × Faulted fault old new)
 
 -- so many bytes of the script are heard, and some unless it is at its end
@@ -173,6 +180,7 @@ pub record Hears (into : List ℕ) (result : Result ℕ HostFault) (old new : Ho
   pub failed : IsTrue old.is_faithful → IfErr result (λ _. new.script ≡ old.script)
   pub moves : IsTrue old.is_honest → Moves Same Same old new
   pub began : new.before ≡ old.faults
+  pub last : new.last ≡ Some call.Hear
   pub counted : IfErr result (λ fault. IsOfSource fault × Faulted fault old new)
 
 -- what holds of every host
@@ -199,6 +207,7 @@ NamesCause NoMemory old new = Unit {0}
 pub record Names (result : Result (Vec (List ℕ) Global) Stop) (old new : HostState) : Type 0 where
   pub quiet : IsQuiet old new
   pub began : new.before ≡ old.faults
+  pub last : new.last ≡ Some call.Names
   pub cause : IfErr result (λ stop. NamesCause stop old new)
   pub same : IsTrue old.is_faithful → new.files ≡ old.files
   pub moves : IsTrue old.is_honest → Moves Same Same old new

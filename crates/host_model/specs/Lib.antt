@@ -1,6 +1,7 @@
 pub mod Picture
 pub mod Moves
 pub mod State
+pub mod Kinds
 pub mod Calls
 pub mod Stores
 pub mod FileName

@@ -1,6 +1,7 @@
 -- What contracts see of a host.
-use Rattle.std.specs.Prelude.{ℕ, Bool, List}
+use Rattle.std.specs.Prelude.{ℕ, Bool, List, Option}
 use Rattle.host_model.specs.Picture.{Image, Picture}
+use Rattle.host_model.specs.declared.call.HostCall.{HostCall}
 
 -- how often each kind of call has failed
 pub record Faults : Type 0 where
@@ -18,6 +19,8 @@ pub record HostState : Type 1 where
   pub faults : Faults
   -- the counts as they stood when the last call began
   pub before : Faults
+  -- the kind of the last call, none where there was none yet
+  pub last : Option HostCall
   -- the moment, as a number that doesn't fall
   pub moment : ℕ
   -- what a crash at this moment may leave

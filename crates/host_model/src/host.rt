@@ -5,7 +5,7 @@ ghost use Rattle.host_model.specs.Picture.{file_at, file_names};
 ghost use Rattle.std.specs.Option.{option_map};
 ghost use Rattle.host_model.specs.Calls.{Names, Reaches, Writes, Syncs, Replaces, Asks, Reads, Says, Hears, IsSound};
 
-use crate::{HostFault, Name, Stop};
+use crate::{HostCall, HostFault, Name, Stop};
 use std::alloc::Global;
 
 /// What a program asks of the outside: the files of one directory, a script that is heard, and replies that are said.
@@ -29,16 +29,16 @@ pub trait Host {
     /// Makes the file empty, whether it is there or not. Whole, and lasting on return. Where it fails it is done or not
     /// done, and a crash inside leaves either.
     fn create(&mut self, name: &Name) -> Result<(), HostFault>
-        ensures { Replaces name.now (Some []) result (state self.old) (state self.new) };
+        ensures { Replaces HostCall.Create name.now (Some []) result (state self.old) (state self.new) };
 
     /// Takes the file out, and does nothing where it isn't there. Whole, and lasting on return. Where it fails it is done
     /// or not done, and a crash inside leaves either.
     fn remove(&mut self, name: &Name) -> Result<(), HostFault>
-        ensures { Replaces name.now None result (state self.old) (state self.new) };
+        ensures { Replaces HostCall.Remove name.now None result (state self.old) (state self.new) };
 
     /// How many bytes the file has, or none exactly where it isn't there.
     fn length(&mut self, name: &Name) -> Result<Option<u64>, HostFault>
-        ensures asks { Asks result (state self.old) (state self.new) }
+        ensures asks { Asks HostCall.Length result (state self.old) (state self.new) }
         ensures is { IsTrue (state self.old).is_faithful → IfOk result (λ size. size ≡ option_map length (file_at (state self.old).files name.now)) };
 
     /// Reads as many bytes as there is room for, from an offset on. The file is there, and all of them lie in it.
