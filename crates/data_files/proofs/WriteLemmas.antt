@@ -5,6 +5,7 @@ use Rattle.std.proofs.lemmas.Option.{same_Some}
 use Rattle.host_model.specs.Picture.{Image, ChangesFile, Becomes, MayBecome, OnBytes, file_at}
 use Rattle.host_model.specs.State.{HostState}
 use Rattle.host_model.specs.Calls.{IsSound, Replaces, Writes, Syncs, Torn, Puts, Reaches}
+use Rattle.host_model.specs.declared.call.HostCall.{HostCall}
 use Rattle.host_model.specs.declared.fault.HostFault.{HostFault}
 use Rattle.host_model.specs.Stores.{Stores}
 use Rattle.host_model.proofs.CallsLemmas.{was_faithful}
@@ -31,26 +32,26 @@ put bytes x y z is step =
     step.is ∙ ap (λ (l : Bytes). Some l) (p.is ∙ ap (λ (l : Bytes). bytes ++ l) (drop-nil (0 + length bytes)) ∙ append-nil bytes)
 
 -- the file wasn't made
-pub create_failed : {name : Bytes} (bytes : Bytes) {T U F : Type 0} {e : HostFault} (fault : F) {a b : HostState} → IsSound a → Replaces name (Some []) {T = T} (Err e) a b
+pub create_failed : {kind : HostCall} {name : Bytes} (bytes : Bytes) {T U F : Type 0} {e : HostFault} (fault : F) {a b : HostState} → IsSound a → Replaces kind name (Some []) {T = T} (Err e) a b
     → Stores name (MayMake (length bytes)) (Becomes (Some bytes)) {T = U} (Err fault) a b
 create_failed bytes {e = e} fault sound call = stores_failed _ (Becomes (Some bytes)) fault (replaced {result = Err e} sound call) (made (length bytes))
 
-both : {name : Bytes} (bytes : Bytes) {T U F : Type 0} {u : T} {result : Result U F} {a b c : HostState} → IsSound a → Replaces name (Some []) {T = T} (Ok u) a b → Stores name (OnBytes (Torn 0 (length bytes))) (OnBytes (Puts 0 bytes)) result b c
+both : {kind : HostCall} {name : Bytes} (bytes : Bytes) {T U F : Type 0} {u : T} {result : Result U F} {a b c : HostState} → IsSound a → Replaces kind name (Some []) {T = T} (Ok u) a b → Stores name (OnBytes (Torn 0 (length bytes))) (OnBytes (Puts 0 bytes)) result b c
     → Stores name (MayMake (length bytes)) (Becomes (Some bytes)) result a c
 both bytes {u = u} sound call write = stores_then (MayMake (length bytes)) (Becomes (Some bytes)) sound (replaced {result = Ok u} sound call) write (made (length bytes)) (torn bytes) (put bytes)
 
 -- the file was made, and not written
-pub made_unwritten : {name : Bytes} (bytes : Bytes) {T V U F : Type 0} {u : T} {e : HostFault} (fault : F) {a b c : HostState} → IsSound a → Replaces name (Some []) {T = T} (Ok u) a b → Writes name 0 bytes {T = V} (Err e) b c
+pub made_unwritten : {kind : HostCall} {name : Bytes} (bytes : Bytes) {T V U F : Type 0} {u : T} {e : HostFault} (fault : F) {a b c : HostState} → IsSound a → Replaces kind name (Some []) {T = T} (Ok u) a b → Writes name 0 bytes {T = V} (Err e) b c
     → Stores name (MayMake (length bytes)) (Becomes (Some bytes)) {T = U} (Err fault) a c
 made_unwritten bytes fault sound call write = both bytes sound call (write_failed (OnBytes (Puts 0 bytes)) fault write)
 
 -- it was made and written, whether the sync failed or not
-pub made_written : {name : Bytes} (bytes : Bytes) {T V U : Type 0} {u : T} {v : V} {result : Result U HostFault} {a b c d : HostState} → IsSound a → Replaces name (Some []) {T = T} (Ok u) a b → Writes name 0 bytes {T = V} (Ok v) b c → Syncs name result c d
+pub made_written : {kind : HostCall} {name : Bytes} (bytes : Bytes) {T V U : Type 0} {u : T} {v : V} {result : Result U HostFault} {a b c d : HostState} → IsSound a → Replaces kind name (Some []) {T = T} (Ok u) a b → Writes name 0 bytes {T = V} (Ok v) b c → Syncs name result c d
     → Stores name (MayMake (length bytes)) (Becomes (Some bytes)) result a d
 made_written bytes sound call write sync = both bytes sound call (write_synced write sync)
 
 -- an empty file can be written
-pub empty_reaches : {name : Bytes} {T : Type 0} {u : T} {a b : HostState} → Replaces name (Some []) {T = T} (Ok u) a b → IsTrue b.is_faithful → Reaches b.files name 0
+pub empty_reaches : {kind : HostCall} {name : Bytes} {T : Type 0} {u : T} {a b : HostState} → Replaces kind name (Some []) {T = T} (Ok u) a b → IsTrue b.is_faithful → Reaches b.files name 0
 empty_reaches call f =
     let there = call.done (was_faithful call.quiet.keeps f) in
     record { file = []; is = after_change there ∙ there.steps; within = omega arith }

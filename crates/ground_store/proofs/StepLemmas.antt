@@ -3,6 +3,7 @@ use Rattle.std.proofs.Common.{◌≡◌, ℕ, List, Option, None, Result, Ok, Er
 use Rattle.host_model.specs.Picture.{ChangesFile, Becomes, MayBecome}
 use Rattle.host_model.specs.State.{HostState}
 use Rattle.host_model.specs.Calls.{IsSound, Replaces}
+use Rattle.host_model.specs.declared.call.HostCall.{HostCall}
 use Rattle.host_model.specs.Stores.{Stores}
 use Rattle.host_model.specs.Alters.{Alters}
 use Rattle.host_model.specs.declared.fault.HostFault.{HostFault}
@@ -30,8 +31,8 @@ pub stores_renamed : {one other : List ℕ} {D A : Step} {T E : Type 0} {result 
 stores_renamed {D = D} {A} {result = result} {a} {b} same stores = subst (λ n. Stores n D A result a b) same stores
 
 -- a file that is taken out
-pub alters_taken : {name : List ℕ} {T U E : Type 0} {u : T} (v : U) {a b : HostState} → IsSound a → Replaces name None {T = T} (Ok u) a b → Alters (IsFile name) (ChangesFile name (MayBecome None)) (ChangesFile name (Becomes None)) {T = U} {E = E} (Ok v) a b
+pub alters_taken : {kind : HostCall} {name : List ℕ} {T U E : Type 0} {u : T} (v : U) {a b : HostState} → IsSound a → Replaces kind name None {T = T} (Ok u) a b → Alters (IsFile name) (ChangesFile name (MayBecome None)) (ChangesFile name (Becomes None)) {T = U} {E = E} (Ok v) a b
 alters_taken {E = E} v sound call = alters_file (MayBecome None) (Becomes None) sound (stores_ok E v (replaced sound call)) (λ x y d. d) (λ x y a. a)
 
-pub alters_untaken : {name : List ℕ} {T U E : Type 0} {fault : HostFault} (answer : E) {a b : HostState} → IsSound a → Replaces name None {T = T} (Err fault) a b → Alters (IsFile name) (ChangesFile name (MayBecome None)) (ChangesFile name (Becomes None)) {T = U} {E = E} (Err answer) a b
+pub alters_untaken : {kind : HostCall} {name : List ℕ} {T U E : Type 0} {fault : HostFault} (answer : E) {a b : HostState} → IsSound a → Replaces kind name None {T = T} (Err fault) a b → Alters (IsFile name) (ChangesFile name (MayBecome None)) (ChangesFile name (Becomes None)) {T = U} {E = E} (Err answer) a b
 alters_untaken answer sound call = alters_file (MayBecome None) (Becomes None) sound (stores_failed (MayBecome None) (Becomes None) answer (replaced sound call) (λ x y d. d)) (λ x y d. d) (λ x y a. a)

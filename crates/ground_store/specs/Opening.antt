@@ -4,6 +4,7 @@ use Rattle.std.specs.FinMap as map
 use Rattle.host_model.specs.Picture.{Image}
 use Rattle.host_model.specs.State.{HostState}
 use Rattle.host_model.specs.Calls.{IsOfFiles, Faulted, IsQuiet, Looks}
+use Rattle.host_model.specs.Kinds.{IsLook}
 use Rattle.host_model.specs.Leaves.{LeavesOnly, AllSettled, Shows}
 use Rattle.host_model.specs.declared.fault.Stop.{Stop}
 use Rattle.host_model.specs.declared.fault.Stop.TheVariants.{Host, Damaged, Full, NoMemory}
@@ -28,12 +29,12 @@ pub record IsFresh {H : Type 0} (ground : GroundValue H) : Type 0 where
   pub runs : ground.stopped ≡ None
   pub logs : ground.logs ≡ map.empty
 
--- why no store was opened
+-- Why no store was opened. Where the nodes are damaged, the last call only asked.
 abbrev pub OpenStops : GroundStop → HostState → HostState → Type 0
 OpenStops begins.NotInit old new = IsTrue old.is_faithful → IsUnborn nodes_name old.files
 OpenStops begins.NotBlank old new = ⊥
 OpenStops (begins.Stop (Host fault)) old new = IsOfFiles fault × Faulted fault old new
-OpenStops (begins.Stop (Damaged name)) old new = (name ≡ nodes_name) × (IsTrue old.is_faithful → IsBorn nodes_name old.files × HasNoNodes nodes_name old.files)
+OpenStops (begins.Stop (Damaged name)) old new = (name ≡ nodes_name) × (IsTrue old.is_faithful → IsBorn nodes_name old.files × HasNoNodes nodes_name old.files) × IsLook new.last
 OpenStops (begins.Stop Full) old new = ⊥
 OpenStops (begins.Stop NoMemory) old new = Unit {0}
 

@@ -1,6 +1,7 @@
 // Grounds of stores that are there.
 ghost use Rattle.std.specs.Prelude.{◌≡◌, IfErr, IfOk, OnOk, IsErr, IsTrue};
 ghost use Rattle.host_model.specs.Calls.{Looks};
+ghost use Rattle.host_model.specs.Kinds.{IsLook};
 ghost use Rattle.host_model.specs.Leaves.{AllSettled};
 ghost use Rattle.node_store.specs.Image.{HasNoNodes, IsBorn, IsStored};
 ghost use Rattle.store_layout.specs.Names.{nodes_name};
@@ -22,6 +23,7 @@ use store_layout::nodes_name;
 /// the logarithm of the number of nodes. This project's own.
 pub fn open_nodes<H: Host>(alloc: Global, host: &mut H) -> Result<NodeStore, GroundStop>
     ensures looks { Looks (H.state host.old) (H.state host.new) }
+    ensures last { OnOk result (IsLook (H.state host.new).last) }
     ensures name { IfOk result (λ nodes. nodes.name ≡ nodes_name) }
     ensures stored { IsTrue (H.state host.old).is_faithful → IfOk result (λ nodes. IsStored nodes (H.state host.old).files) }
     ensures born { IsTrue (H.state host.old).is_faithful → OnOk result (IsBorn nodes_name (H.state host.old).files) }

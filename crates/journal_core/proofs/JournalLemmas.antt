@@ -6,6 +6,7 @@ use Rattle.host_model.specs.Picture.{Image, Picture, Becomes, MayBecome, Changes
 use Rattle.host_model.specs.State.{HostState}
 use Rattle.host_model.specs.Moves.{Reached, Moves}
 use Rattle.host_model.specs.Calls.{IsSettled, IsSound, Replaces, Torn, Puts}
+use Rattle.host_model.specs.declared.call.HostCall.{HostCall}
 use Rattle.host_model.specs.declared.fault.HostFault.{HostFault}
 use Rattle.host_model.specs.Leaves.{LeavesOnly}
 use Rattle.host_model.specs.Stores.{Stores}
@@ -30,12 +31,12 @@ put : (x y z : Option (List ℕ)) → Becomes (Some []) x y → OnBytes (Puts 0 
 put x y z is step = let p = bytes_at [] step is in step.is ∙ ap (λ (l : List ℕ). Some l) p.is
 
 -- the file wasn't made
-pub create_failed : {name : List ℕ} (A : Option (List ℕ) → Option (List ℕ) → Type 0) {T U F : Type 0} {e : HostFault} (fault : F) {a b : HostState} → IsSound a → Replaces name (Some []) {T = T} (Err e) a b
+pub create_failed : {kind : HostCall} {name : List ℕ} (A : Option (List ℕ) → Option (List ℕ) → Type 0) {T U F : Type 0} {e : HostFault} (fault : F) {a b : HostState} → IsSound a → Replaces kind name (Some []) {T = T} (Err e) a b
     → Stores name (MayMake 1) A {T = U} (Err fault) a b
 create_failed A {e = e} fault sound call = stores_failed _ A fault (replaced {result = Err e} sound call) made
 
 -- the file was made, and then its gate, whether that failed or not
-pub create_both : {name : List ℕ} {T U F : Type 0} {u : T} {result : Result U F} {a b c : HostState} → IsSound a → Replaces name (Some []) {T = T} (Ok u) a b → Stores name (OnBytes (Torn 0 1)) (OnBytes (Puts 0 (0 ∷ []))) result b c
+pub create_both : {kind : HostCall} {name : List ℕ} {T U F : Type 0} {u : T} {result : Result U F} {a b c : HostState} → IsSound a → Replaces kind name (Some []) {T = T} (Ok u) a b → Stores name (OnBytes (Torn 0 1)) (OnBytes (Puts 0 (0 ∷ []))) result b c
     → Stores name (MayMake 1) (Becomes (Some (0 ∷ []))) result a c
 create_both {u = u} sound call gate = stores_then (MayMake 1) (Becomes (Some (0 ∷ []))) sound (replaced {result = Ok u} sound call) gate made torn put
 

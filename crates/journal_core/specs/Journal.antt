@@ -3,6 +3,7 @@ use Rattle.std.specs.Prelude.{◌≡◌, ◌⊎◌, ℕ, ◌+◌, ◌^◌, ◌<�
 use Rattle.host_model.specs.Picture.{Image, Picture, file_at}
 use Rattle.host_model.specs.State.{HostState}
 use Rattle.host_model.specs.Calls.{IsOfFiles, Faulted, IsSettled}
+use Rattle.host_model.specs.Kinds.{IsLook}
 use Rattle.host_model.specs.Leaves.{LeavesOnly}
 use Rattle.host_model.specs.declared.fault.HostFault.{HostFault}
 use Rattle.host_model.specs.declared.fault.Stop.{Stop}
@@ -39,10 +40,10 @@ FileCause (Damaged name) old new = ⊥
 FileCause Full old new = ⊥
 FileCause NoMemory old new = Unit {0}
 
--- why an opening may stop
+-- Why an opening may stop. Where the file is damaged, the last call only asked.
 abbrev pub OpenCause : List ℕ → Stop → HostState → HostState → Type 0
 OpenCause name (Host fault) old new = IsCounted fault old new
-OpenCause name (Damaged damaged) old new = (damaged ≡ name) × (IsTrue old.is_faithful → IsDamaged name old.files)
+OpenCause name (Damaged damaged) old new = (damaged ≡ name) × (IsTrue old.is_faithful → IsDamaged name old.files) × IsLook new.last
 OpenCause name Full old new = ⊥
 OpenCause name NoMemory old new = Unit {0}
 

@@ -2,6 +2,7 @@
 ghost use Rattle.std.specs.Prelude.{◌≡◌, ◌+◌, ◌↔◌, [], ◌∷◌, List, ℕ, Some, IfOk, IfErr, OnOk, OnErr, IsErr, IsErrOf, IsTrue, length};
 ghost use Rattle.host_model.specs.Picture.{OnBytes, Becomes};
 ghost use Rattle.host_model.specs.Calls.{Looks};
+ghost use Rattle.host_model.specs.Kinds.{IsLook};
 ghost use Rattle.host_model.specs.Stores.{Stores};
 ghost use Rattle.journal_core.specs.Changes.{MayGain, Gains, MayMake};
 ghost use Rattle.journal_core.specs.Journal.{Holds, IsOpen, IsFull, IsDamaged, Appends, FileCause, OpenCause, AppendCause};
@@ -75,6 +76,7 @@ impl Journal {
     /// its records, and time that grows with the file; two calls of the host.
     pub fn open<H: Host>(alloc: Global, host: &mut H, name: &Name) -> Result<Journal, Stop>
         ensures looks { Looks (H.state host.old) (H.state host.new) }
+        ensures last { OnOk result (IsLook (H.state host.new).last) }
         ensures name { IfOk result (λ journal. journal.name ≡ name.now) }
         ensures holds { IsTrue (H.state host.old).is_faithful → IfOk result (λ journal. Holds name.now journal.end journal.records (H.state host.old).files) }
         ensures opened { IsTrue (H.state host.new).is_faithful → IfOk result (λ journal. IsOpen name.now journal.end (H.state host.new).files) }

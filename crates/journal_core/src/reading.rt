@@ -1,8 +1,9 @@
 // Reads a file of records.
-ghost use Rattle.std.specs.Prelude.{◌≡◌, ℕ, List, IsTrue, IfOk, IfErr, MatchOption};
+ghost use Rattle.std.specs.Prelude.{◌≡◌, ℕ, List, IsTrue, IfOk, IfErr, OnOk, MatchOption};
 ghost use Rattle.std.specs.Option.{option_map};
 ghost use Rattle.host_model.specs.Picture.{file_at};
 ghost use Rattle.host_model.specs.Calls.{Looks};
+ghost use Rattle.host_model.specs.Kinds.{IsLook};
 ghost use Rattle.journal_core.specs.Journal.{FileCause};
 ghost use Rattle.journal_core.specs.Records.{HasRecords, EndsAt, HasNone};
 ghost use Rattle.journal_core.specs.Parts.{HasNoRecord, IsRecord};
@@ -23,6 +24,7 @@ pub struct Contents {
 /// The bytes of a whole file, or none where it isn't there. Takes memory for them.
 pub fn read_file<H: Host>(alloc: Global, host: &mut H, name: &Name) -> Result<Option<Vec<u8>>, Stop>
     ensures looks { Looks (H.state host.old) (H.state host.new) }
+    ensures last { OnOk result (IsLook (H.state host.new).last) }
     ensures is { IsTrue (H.state host.old).is_faithful → IfOk result (λ found. file_at (H.state host.old).files name.now ≡ option_map (λ bytes. bytes.items) found) }
     ensures stops { IfErr result (λ stop. FileCause stop (H.state host.old) (H.state host.new)) }
 {

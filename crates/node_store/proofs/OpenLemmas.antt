@@ -24,7 +24,7 @@ damaged_none name image damaged = record {
 
 pub open_cause : (name : List ℕ) (stop : Stop) (old new : HostState) → journal.OpenCause name stop old new → OpenCause name stop old new
 open_cause name (Host fault) old new cause = cause
-open_cause name (Damaged damaged) old new cause = (cause.0, λ faithful. damaged_none name old.files (cause.1 faithful))
+open_cause name (Damaged damaged) old new cause = (cause.0, λ faithful. damaged_none name old.files (cause.1 faithful), cause.2)
 open_cause name Full old new cause = cause
 open_cause name NoMemory old new cause = cause
 

@@ -1,6 +1,7 @@
 -- Why the calls of a node store stop.
 use Rattle.std.specs.Prelude.{◌≡◌, ◌⊎◌, ℕ, List, Result, Err, IsOk, IsTrue}
 use Rattle.host_model.specs.State.{HostState}
+use Rattle.host_model.specs.Kinds.{IsLook}
 use Rattle.host_model.specs.declared.fault.Stop as stop
 use Rattle.host_model.specs.declared.fault.Stop.TheVariants.{Host, Damaged, Full, NoMemory}
 use Rattle.journal_core.specs.Journal as journal
@@ -57,9 +58,9 @@ IsEarly (Stop NoMemory) = Unit {0}
 pub record AnswersOrNoMemory {T : Type 0} (answer result : Result T NodeStop) : Type 0 where
   pub either : (result ≡ answer) ⊎ (result ≡ Err (Stop NoMemory))
 
--- why an opening may stop
+-- Why an opening may stop. Where the file is damaged, the last call only asked.
 abbrev pub OpenCause : List ℕ → stop.Stop → HostState → HostState → Type 0
 OpenCause name (Host fault) old new = journal.IsCounted fault old new
-OpenCause name (Damaged damaged) old new = (damaged ≡ name) × (IsTrue old.is_faithful → HasNoNodes name old.files)
+OpenCause name (Damaged damaged) old new = (damaged ≡ name) × (IsTrue old.is_faithful → HasNoNodes name old.files) × IsLook new.last
 OpenCause name Full old new = ⊥
 OpenCause name NoMemory old new = Unit {0}

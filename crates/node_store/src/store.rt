@@ -2,6 +2,7 @@
 ghost use Rattle.std.specs.Prelude.{◌≡◌, ◌⊎◌, ◌+◌, List, ℕ, length, Ok, Err, IfOk, IfErr, IsErrOf, OnOk, IsTrue, MatchBool, MatchOption};
 ghost use Rattle.std.specs.FinMap as map;
 ghost use Rattle.std.specs.Option.{option_copied};
+ghost use Rattle.host_model.specs.Kinds.{IsLook};
 ghost use Rattle.host_model.specs.Calls.{HasCause, Looks};
 ghost use Rattle.host_model.specs.Alters.{Alters};
 ghost use Rattle.host_model.specs.declared.fault.Stop.TheVariants.{NoMemory};
@@ -79,6 +80,7 @@ impl NodeStore {
     /// of nodes, and the memory with the file.
     pub fn open<H: Host>(alloc: Global, host: &mut H, name: &Name) -> Result<NodeStore, Stop>
         ensures looks { Looks (H.state host.old) (H.state host.new) }
+        ensures last { OnOk result (IsLook (H.state host.new).last) }
         ensures name { IfOk result (λ store. store.name ≡ name.now) }
         ensures stored { IsTrue (H.state host.old).is_faithful → IfOk result (λ store. IsStored store (H.state host.old).files) }
         ensures stops { IfErr result (λ stop. OpenCause name.now stop (H.state host.old) (H.state host.new)) }

@@ -1,9 +1,11 @@
 -- What the hearing of a line does.
-use Rattle.std.specs.Prelude.{◌≡◌, ℕ, ◌≤◌, ◌<◌, List, [], ◌∷◌, length, Option, IsTrue}
+use Rattle.std.specs.Prelude.{◌≡◌, ◌⊎◌, ℕ, ◌≤◌, ◌<◌, List, [], ◌∷◌, length, Option, Some, IsTrue}
 use Rattle.host_model.specs.Picture.{Same}
 use Rattle.host_model.specs.State.{HostState}
 use Rattle.host_model.specs.Moves.{Moves}
 use Rattle.host_model.specs.Calls.{Keeps, Faulted, IsOfSource}
+use Rattle.host_model.specs.declared.call.HostCall.{HostCall}
+use Rattle.host_model.specs.declared.call.HostCall.TheVariants.{Hear}
 use Rattle.host_model.specs.declared.fault.Stop.{Stop}
 use Rattle.host_model.specs.declared.fault.Stop.TheVariants.{Host, Damaged, Full, NoMemory}
 use Rattle.script_source.specs.declared.halt.Halt.{Halt}
@@ -31,6 +33,10 @@ pub record Listens (old new : HostState) : Type 0 where
   pub keeps : Keeps old new
   pub same : IsTrue old.is_faithful → (new.files ≡ old.files) × (new.said ≡ old.said)
   pub moves : IsTrue old.is_honest → Moves Same Same old new
+
+-- the last call of the host heard, or bytes were held and the host is the same
+abbrev pub HeardLast : {H : Type 0} → List ℕ → Option HostCall → H → H → Type 0
+HeardLast held last old new = (last ≡ Some Hear) ⊎ (0 < length held) × (new ≡ old)
 
 -- the next line of what is left of the script, and what is left behind it
 pub record TakesLine (before text after : List ℕ) : Type 0 where

@@ -2,7 +2,7 @@
 ghost use Rattle.std.specs.Prelude.{◌≡◌, ◌<◌, ◌++◌, [], length, Contains, IfOk, IfErr, IsTrue};
 ghost use Rattle.std.specs.Str.Lines.{strip_carriage_return};
 ghost use Rattle.host_model.specs.Calls.{IsOfSource, Faulted};
-ghost use Rattle.script_source.specs.Hearing.{Listens, Takes, IsShort, HearingStops, stop_of};
+ghost use Rattle.script_source.specs.Hearing.{Listens, Takes, IsShort, HeardLast, HearingStops, stop_of};
 ghost use Rattle.script_source.specs.Feeds.{MovesLine, Fills, IsLast};
 
 use crate::halt::Halt;
@@ -55,6 +55,7 @@ impl Pieces {
 
         // a line whose end is held asks nothing of the host
         ensures held { Contains self.old 10 → host.new ≡ host.old }
+        ensures last { HeardLast self.old (H.state host.new).last host.old host.new }
         ensures stops { IfErr result (λ halt.
             HearingStops (stop_of halt) (H.state host.old) (H.state host.new)) }
     {
@@ -76,6 +77,7 @@ impl Pieces {
     fn fill<H: Host>(&mut self, host: &mut H) -> Result<bool, HostFault>
         ensures listens { Listens (H.state host.old) (H.state host.new) }
         ensures held { 0 < length self.old → (self.new ≡ self.old) × (host.new ≡ host.old) }
+        ensures last { HeardLast self.old (H.state host.new).last host.old host.new }
         ensures fills { IfOk result
             (Fills self.old (H.state host.old) self.new (H.state host.new)) }
         ensures cause { IfErr result (λ fault. IsOfSource fault

@@ -1,6 +1,6 @@
 // The script, taken line by line.
 ghost use Rattle.std.specs.Prelude.{◌≡◌, ◌++◌, [], None, Some, Err, Contains, IfOk, IfErr, OnOk, IsTrue};
-ghost use Rattle.script_source.specs.Hearing.{Listens, Takes, IsShort, HearingStops};
+ghost use Rattle.script_source.specs.Hearing.{Listens, Takes, IsShort, HeardLast, HearingStops};
 
 use crate::halt::Halt;
 use crate::pieces::Pieces;
@@ -61,6 +61,9 @@ impl Script {
     /// held may be lost. From then on it answers the same one and asks the host nothing. No file is
     /// written.
     ///
+    /// But for the same answer again, the last call of the host heard, or bytes were held and the
+    /// host is asked nothing.
+    ///
     /// Each byte is looked at once, and copied once into the line. A host call hears up to 4,096
     /// bytes, and a line whose end is held takes none.
     pub fn next_line<H: Host>(&mut self, alloc: Global, host: &mut H) -> Result<Heard, Stop>
@@ -72,6 +75,8 @@ impl Script {
 
         // a line whose end is held asks nothing of the host
         ensures held { Contains self.old.held 10 → host.new ≡ host.old }
+        ensures last { self.old.stop ≡ None →
+            HeardLast self.old.held (H.state host.new).last host.old host.new }
         ensures dead { (stop : Stop) → self.old.stop ≡ Some stop →
             (result ≡ Err stop) × (self.new ≡ self.old) × (host.new ≡ host.old) }
         ensures running { OnOk result (self.new.stop ≡ None) }

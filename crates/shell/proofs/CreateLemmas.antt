@@ -21,7 +21,7 @@ use Rattle.table_store.specs.Room.{AddsTable}
 use Rattle.table_store.specs.StoreValue.{StoreValue, MayCreate, Creates, HasCreated, CreateStops, IsUnasked, entry_of, station_of}
 use Rattle.plain_model.specs.declared.operation.Entry.{Entry}
 use Rattle.shell.specs.Serving.{answer_to, tables_after, entries_of}
-use Rattle.shell.proofs.LineLemmas.{only_start, unchanged, does_nothing}
+use Rattle.shell.proofs.LineLemmas.{is_answered, only_start, unchanged, does_nothing}
 use Rattle.shell.specs.Walk.{Steps}
 use Rattle.shell.proofs.ReadableLemmas.{stays_altered}
 use Rattle.shell.specs.LineServed.{IsSure, IsBefore, DidNothing, IsInDoubt, IsEarlyStop, IsCommitStop, StopCounts, DoesLine}
@@ -67,6 +67,7 @@ module _ (number : ℕ) (name : List ℕ) (old new : StoreValue) (before now : H
     halts = λ f. tt;
     stops = tt;
     unasked = tt;
+    blank = λ none. absurd (is_answered Done none);
     readable = stays_altered sound alters (λ d p step. step.readable);
     leaves = shows alters;
     rests = λ h rests. alters.rests h rests;
@@ -92,6 +93,7 @@ module _ (number : ℕ) (name : List ℕ) (old new : StoreValue) (before now : H
     halts = λ f. halts_at f stop (alters.tried f) why untouched;
     stops = stops_so stop why;
     unasked = λ own. unchanged (untouched own);
+    blank = tt;
     readable = stays_altered sound alters (λ d p step. step.readable);
     leaves = shows alters;
     rests = λ h rests. tt;

@@ -1,9 +1,10 @@
 -- How the serving of a script ends.
-use Rattle.std.proofs.Common.{◌≡◌, inl, inr, ⊎_elim, ℕ, ◌+◌, ◌≤◌, List, [], ◌++◌, length, take, drop, codes, Result, Ok, Err, IsTrue, IfErr, IfOk, OnOk, refl, sym, ◌∙◌, ap, subst, arith, length-append, length-drop}
+use Rattle.std.proofs.Common.{◌≡◌, ◌⊎◌, inl, inr, ⊎_elim, ℕ, ◌+◌, ◌≤◌, List, [], ◌++◌, length, take, drop, codes, Result, Ok, Err, IsTrue, IfErr, IfOk, OnOk, refl, sym, ◌∙◌, ap, subst, arith, length-append, length-drop}
 use Rattle.std.proofs.lemmas.List.{append-nil, nil_from_length}
 use Rattle.host_model.specs.Picture.{Picture, Image}
 use Rattle.host_model.specs.State.{HostState}
 use Rattle.host_model.specs.Calls.{IsSound}
+use Rattle.host_model.specs.Kinds.{IsOfScript}
 use Rattle.host_model.specs.Leaves.{AllSettled}
 use Rattle.host_model.specs.declared.fault.HostFault.TheVariants.{Disk, Source, Sink, Memory}
 use Rattle.host_model.specs.declared.fault.Stop.{Stop}
@@ -110,8 +111,8 @@ module _ {first : HostState} {start : Station} {n : ℕ} {pending : List ℕ} {s
     hearing NoMemory why = tt
 
     -- a stop while a line was heard, or before it
-    pub stopped_hearing : (stop : Stop) → HearingStops stop now mid → (f : IsTrue first.is_faithful) → HasStopped stop first start n store.history store.doubt mid
-    stopped_hearing stop why f = inl (record { why = hearing stop why; done = done_at f (mid_files f); doubt = served.doubt; said = mid_said f })
+    pub stopped_hearing : (stop : Stop) → HearingStops stop now mid → IsOfScript mid.last ⊎ (n ≡ 0) × (mid.script ≡ first.script) → (f : IsTrue first.is_faithful) → HasStopped stop first start n store.history store.doubt mid
+    stopped_hearing stop why call f = inl (record { why = hearing stop why; done = done_at f (mid_files f); doubt = served.doubt; said = mid_said f; call = call })
 
     pub hearing_counts : (stop : Stop) → HearingStops stop now mid → StopCounts stop first mid
     hearing_counts (Host fault) why = faulted-then served.keeps why.1
@@ -138,9 +139,9 @@ module _ {first : HostState} {start : Station} {n : ℕ} {pending : List ℕ} {s
       entries_behind : (f : IsTrue first.is_faithful) → store.history ++ entries_of number (line_of text) store.tables ≡ entries_at number texts tables
       entries_behind f = entries_next sound sound_now served listens sound_mid takes number number_is few serves f ∙ ap (λ m. entries_at m texts tables) (sym number_is)
 
-      nothing : (f : IsTrue first.is_faithful) → DidNothing stop (line_of text) store store' mid later → StopsBefore stop first start number store'.history store'.doubt later
+      nothing : (f : IsTrue first.is_faithful) → IsOfScript mid.last → DidNothing stop (line_of text) store store' mid later → StopsBefore stop first start number store'.history store'.doubt later
       unfolding last_line
-      nothing f none = record {
+      nothing f call none = record {
         last = last_line f;
         done = record {
           within = served.within f;
@@ -152,6 +153,7 @@ module _ {first : HostState} {start : Station} {n : ℕ} {pending : List ℕ} {s
         why = none.why;
         doubt = none.doubt;
         said = none.said ∙ mid_said f;
+        call = subst IsOfScript (sym none.same.last) call;
       }
 
       inside : (f : IsTrue first.is_faithful) → IsInDoubt stop number (line_of text) store store' mid later → StopsInside stop first start number store'.history store'.doubt later
@@ -183,13 +185,13 @@ module _ {first : HostState} {start : Station} {n : ℕ} {pending : List ℕ} {s
             ∙ ap (λ (t : Tables). first.said ++ replies_at n texts tables ++ take unsaid.count (reply_to number (line_of text) t)) (tables_are sound sound_now served f);
       }
 
-      halted : (f : IsTrue first.is_faithful) → LineHalts stop number (line_of text) store store' mid later → HasStopped stop first start number store'.history store'.doubt later
-      halted f (inl none) = inr (inr (inl (nothing f none)))
-      halted f (inr (inl doubt)) = inr (inr (inr (inl (inside f doubt))))
-      halted f (inr (inr unsaid)) = inr (inr (inr (inr (behind f unsaid))))
+      halted : (f : IsTrue first.is_faithful) → IsOfScript mid.last → LineHalts stop number (line_of text) store store' mid later → HasStopped stop first start number store'.history store'.doubt later
+      halted f call (inl none) = inr (inr (inl (nothing f call none)))
+      halted f call (inr (inl doubt)) = inr (inr (inr (inl (inside f doubt))))
+      halted f call (inr (inr unsaid)) = inr (inr (inr (inr (behind f unsaid))))
 
-      pub stopped_line : (f : IsTrue first.is_faithful) → HasStopped stop first start number store'.history store'.doubt later
-      stopped_line f = halted f (serves.halts (mid_faithful f))
+      pub stopped_line : (f : IsTrue first.is_faithful) → IsOfScript mid.last → HasStopped stop first start number store'.history store'.doubt later
+      stopped_line f call = halted f call (serves.halts (mid_faithful f))
 
       pub line_counts : StopCounts stop first later
       line_counts = counted stop later serves.stops

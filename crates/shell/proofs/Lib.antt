@@ -3,6 +3,7 @@ pub mod ReadableLemmas
 pub mod OverLemmas
 pub mod WalkLemmas
 pub mod LineLemmas
+pub mod LastCallLemmas
 pub mod CreateLemmas
 pub mod ServeLemmas
 pub mod SplitLemmas

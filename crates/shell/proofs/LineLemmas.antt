@@ -1,5 +1,5 @@
 -- What a line does, from what the calls below it do.
-use Rattle.std.proofs.Common.{◌≡◌, ◌⊎◌, inl, ℕ, [], ◌++◌, Option, None, Ok, Err, IsTrue, refl, sym, ◌∙◌, ap, subst}
+use Rattle.std.proofs.Common.{◌≡◌, ◌⊎◌, inl, ℕ, [], ◌++◌, Option, Some, None, Ok, Err, IsTrue, refl, sym, ◌∙◌, ap, subst}
 use Rattle.std.proofs.lemmas.List.{append-nil}
 use Rattle.host_model.specs.Picture.{Picture}
 use Rattle.host_model.specs.State.{HostState, picture_now}
@@ -21,6 +21,10 @@ use Rattle.shell.proofs.ReadableLemmas.{stays_refl}
 pub only_start : {kind : Picture → Type 0} {state : HostState} → IsSound state → IsTrue state.is_honest → AllSettled state → kind (picture_now state) → LeavesOnly kind state state
 only_start {kind} sound honest rests start = leaves_start kind sound honest (λ p now. subst kind (sym (rests_shows sound honest rests p now)) start)
 
+-- an answer isn't lacking
+pub is_answered : (answer : Answer) → ◌≡◌ {A = Option Answer} (Some answer) None → ⊥
+is_answered answer is = cc
+
 -- a host that is the same is at the same moment
 pub unchanged : {before now : HostState} → now ≡ before → IsUnchanged before now
 unchanged same = record {
@@ -29,6 +33,7 @@ unchanged same = record {
   script = ap (λ (s : HostState). s.script) same;
   faults = ap (λ (s : HostState). s.faults) same;
   found = ap (λ (s : HostState). s.before) same;
+  last = ap (λ (s : HostState). s.last) same;
   moment = ap (λ (s : HostState). s.moment) same;
 }
 
@@ -49,6 +54,7 @@ module _ (number : ℕ) (line : Line) (store : StoreValue) (state : HostState) (
     halts = λ f. tt;
     stops = tt;
     unasked = tt;
+    blank = λ none. unchanged refl;
     readable = stays_refl sound;
     leaves = shows_now;
     rests = λ h rests. rests;
@@ -67,6 +73,7 @@ module _ (number : ℕ) (line : Line) (store : StoreValue) (state : HostState) (
     halts = λ f. inl (record { why = tt; history = refl; doubt = doubt; same = unchanged refl; said = refl; says = sure.says f; leaves = λ h rests. only_start sound h rests (record { says = sure.says f; said_is = refl }) });
     stops = tt;
     unasked = λ u. unchanged refl;
+    blank = tt;
     readable = stays_refl sound;
     leaves = shows_now;
     rests = λ h rests. tt;

@@ -4,6 +4,7 @@ use Rattle.std.proofs.lemmas.Bool.{false≢true}
 use Rattle.host_model.specs.Picture.{Image}
 use Rattle.host_model.specs.State.{HostState}
 use Rattle.host_model.specs.Calls.{IsSound, Looks}
+use Rattle.host_model.specs.Kinds.{IsLook}
 use Rattle.host_model.specs.Leaves.{AllSettled}
 use Rattle.host_model.specs.declared.fault.Stop.{Stop}
 use Rattle.host_model.specs.declared.fault.Stop.TheVariants.{Host, Damaged, Full, NoMemory}
@@ -50,7 +51,7 @@ unopened stop {old} {new} looks why = record {
     at NotInit why = why
     at NotBlank why = why
     at (Stopped (Host fault)) why = why
-    at (Stopped (Damaged named)) why = (why.0, λ f. ((why.1 f).0, record { none = λ tables says. (why.1 f).1.none says.nodes says.has }))
+    at (Stopped (Damaged named)) why = (why.0, λ f. ((why.1 f).0, record { none = λ tables says. (why.1 f).1.none says.nodes says.has }), why.2)
     at (Stopped Full) why = why
     at (Stopped NoMemory) why = tt
 
@@ -64,8 +65,8 @@ module _ (nodes : NodeStoreValue) (named : nodes.name ≡ nodes_name) where
 
   module _ {old new : HostState} (looks : Looks old new) (stored : IsTrue old.is_faithful → IsStored nodes old.files) where
     -- the nodes say no tables, or there was no memory for them
-    pub unread : (stop : Stop) → (IsTrue old.is_faithful → IsBorn nodes_name old.files) → ReadStops stop nodes.nodes → OpensStore false (Err (Stopped stop)) old new
-    unread stop born why = record {
+    pub unread : (stop : Stop) → (IsTrue old.is_faithful → IsBorn nodes_name old.files) → IsLook new.last → ReadStops stop nodes.nodes → OpensStore false (Err (Stopped stop)) old new
+    unread stop born look why = record {
       fresh = tt;
       sure = tt;
       begins = λ f. tt;
@@ -77,7 +78,7 @@ module _ (nodes : NodeStoreValue) (named : nodes.name ≡ nodes_name) where
       where
         at : (s : Stop) → ReadStops s nodes.nodes → OpenStops (Stopped s) old new
         at (Host fault) why = absurd why
-        at (Damaged name) why = (why.0, λ f. (born f, says_none old.files (stored f) why.1))
+        at (Damaged name) why = (why.0, λ f. (born f, says_none old.files (stored f) why.1), look)
         at Full why = why
         at NoMemory why = tt
 

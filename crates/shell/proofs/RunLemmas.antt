@@ -3,8 +3,10 @@ use Rattle.std.proofs.Common.{◌≡◌, ℕ, List, Option, Result, IsTrue, IfEr
 use Rattle.std.specs.Option.{option_to_list}
 use Rattle.host_model.specs.State.{HostState}
 use Rattle.host_model.specs.Calls.{Keeps}
+use Rattle.host_model.specs.Kinds.{IsOfScript}
 use Rattle.host_model.specs.Leaves.{AllSettled}
 use Rattle.host_model.specs.declared.fault.Stop.{Stop}
+use Rattle.host_model.specs.declared.fault.Stop.TheVariants.{Full}
 use Rattle.table_store.specs.Room.{Station}
 use Rattle.plain_model.specs.declared.operation.Entry.{Entry}
 use Rattle.shell.specs.LineServed.{StopCounts}
@@ -30,15 +32,16 @@ module _ (ending : Result Ending Stop) (lines : ℕ) (past maybe history : List 
   maybe_is : option_to_list outcome.doubt ≡ maybe
   maybe_is = ap (λ (o : Outcome). option_to_list o.doubt) told_by ∙ doubt_is
 
-  pub serves_told : {first now : HostState} {start : Station} → Keeps first now → (IsTrue first.is_faithful → HasEnded ending first start lines past maybe now) → IfErr ending (λ stop. StopCounts stop first now)
+  pub serves_told : {first now : HostState} {start : Station} → Keeps first now → (IsTrue first.is_faithful → HasEnded ending first start lines past maybe now) → IfErr ending (λ stop. StopCounts stop first now) → IfErr ending (λ stop. stop ≡ Full → IsOfScript now.last)
       → (IsTrue first.is_honest → AllSettled first → OnOk ending (AllSettled now)) → ServesScript first start outcome now
-  serves_told keeps ended stops rests = record {
+  serves_told keeps ended stops full rests = record {
     ending = ending;
     status = ap (λ (o : Outcome). o.status) told_by;
     damaged = ap (λ (o : Outcome). o.damaged) told_by;
     keeps = keeps;
     ended = λ f. rw (lines_are, past_is, maybe_is) (ended f);
     stops = stops;
+    full = full;
     rests = rests;
   }
 

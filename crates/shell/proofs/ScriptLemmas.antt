@@ -1,5 +1,5 @@
 -- How the serving of a script goes on, line by line.
-use Rattle.std.proofs.Common.{◌≡◌, ℕ, ◌+◌, ◌≤◌, List, [], ◌∷◌, ◌++◌, length, take, drop, map, Some, None, slice_get, refl, sym, ◌∙◌, ap, subst, arith, length-take}
+use Rattle.std.proofs.Common.{◌≡◌, inl, ℕ, ◌+◌, ◌≤◌, List, [], ◌∷◌, ◌++◌, length, take, drop, map, Some, None, slice_get, refl, sym, ◌∙◌, ap, subst, arith, length-take}
 use Rattle.std.specs.List.{AllByRecursion}
 use Rattle.std.proofs.lemmas.List.{append-nil}
 use Rattle.host_model.specs.State.{HostState}
@@ -35,6 +35,7 @@ served_start store first sound running doubt history sure = record {
   walks = λ f. refl;
   history = λ f. history;
   said = λ f. sym (append-nil first.said);
+  call = inl refl;
   readable = stays_refl sound;
   leaves = λ h rests. only_start sound h rests (record { done = 0; within = omega arith; says = sure.says (sound.faithful h); quiet = omega arith });
   rests = λ h rests. rests;

@@ -1,9 +1,10 @@
 -- A line is done, and then its reply is said.
-use Rattle.std.proofs.Common.{◌≡◌, ◌⊎◌, inl, inr, ⊎_elim, ℕ, List, ◌++◌, take, Option, Some, None, Result, Ok, Err, IsTrue, sym, ◌∙◌, ap, subst}
+use Rattle.std.proofs.Common.{◌≡◌, ◌⊎◌, inl, inr, ⊎_elim, ℕ, List, ◌++◌, take, Option, Some, None, Result, Ok, Err, IsTrue, refl, sym, ◌∙◌, ap, subst}
 use Rattle.std.proofs.lemmas.List.{append-nil}
 use Rattle.host_model.specs.Picture.{Picture}
 use Rattle.host_model.specs.State.{HostState}
 use Rattle.host_model.specs.Calls.{IsSound, Says, IsOfSink}
+use Rattle.host_model.specs.Kinds.{IsOfScript}
 use Rattle.host_model.specs.Leaves.{LeavesOnly, Shows, Told, AllSettled}
 use Rattle.host_model.specs.declared.fault.HostFault.{HostFault}
 use Rattle.host_model.specs.declared.fault.HostFault.TheVariants.{Disk, Source, Sink, Memory}
@@ -19,11 +20,9 @@ use Rattle.table_store.specs.Kept.{SaysTables}
 use Rattle.table_store.specs.StoreValue.{StoreValue, IsUnasked}
 use Rattle.shell.specs.Serving.{spelled, tables_after, reply_to}
 use Rattle.shell.specs.LineServed.{IsLinePicture, IsReplyStop, DoesLine, ServesLine}
+use Rattle.shell.proofs.LastCallLemmas.{not_full}
 use Rattle.shell.proofs.WalkLemmas.{steps-tables}
 use Rattle.shell.proofs.ReadableLemmas.{stays_said, stays_then}
-
-not_full : ◌≡◌ {A = Stop} NoMemory Full → ⊥
-not_full is = cc
 
 no_fault_full : (fault : HostFault) → ◌≡◌ {A = Stop} (Host fault) Full → ⊥
 no_fault_full fault is = cc
@@ -50,6 +49,7 @@ module _ (number : ℕ) (line : Line) (old new : StoreValue) (before mid : HostS
     said = λ f. tt;
     halts = λ f. ⊎_elim (λ none. inl none) (λ doubt. inr (inl doubt)) (does.halts f);
     stops = does.stops;
+    call = λ at. tt;
     full = λ is. does.unasked (subst (λ (s : Stop). IsUnasked s) (sym is) tt);
     readable = does.readable;
     leaves = λ h rests. leaves_weaker (does.leaves h rests) silent;
@@ -70,6 +70,7 @@ module _ (number : ℕ) (line : Line) (old new : StoreValue) (before mid : HostS
     halts = λ f. tt;
     stops = tt;
     full = tt;
+    call = λ at. subst IsOfScript (sym (does.blank refl).last) at;
     readable = does.readable;
     leaves = λ h rests. leaves_weaker (does.leaves h rests) silent;
     rests = does.rests;
@@ -93,6 +94,7 @@ module _ (number : ℕ) (line : Line) (old new : StoreValue) (before mid : HostS
       halts = λ f. inr (inr (record { why = tt; steps = does.steps; history = does.history; doubt = does.doubt; count = 0; said = does.quiet.said f ∙ sym (append-nil before.said); says = after_says f }));
       stops = tt;
       full = λ is. absurd (not_full is);
+      call = λ at. tt;
       readable = does.readable;
       leaves = λ h rests. leaves_weaker (does.leaves h rests) silent;
       rests = λ h rests. tt;
@@ -129,6 +131,7 @@ module _ (number : ℕ) (line : Line) (old new : StoreValue) (before mid : HostS
         halts = λ f. tt;
         stops = tt;
         full = tt;
+        call = λ at. subst IsOfScript (sym says.last) tt;
         readable = stays_then sound does.quiet.keeps does.rests does.readable (stays_said at_mid says);
         leaves = all_leaves says;
         rests = λ h rests. rests_after_say (still_honest does.quiet.keeps h) (still_faithful does.quiet.keeps (sound.faithful h)) says (does.rests h rests);
@@ -164,6 +167,7 @@ module _ (number : ℕ) (line : Line) (old new : StoreValue) (before mid : HostS
             }));
         stops = faulted-then does.quiet.keeps says.counted.1;
         full = λ is. absurd (no_fault_full fault is);
+        call = λ at. tt;
         readable = stays_then sound does.quiet.keeps does.rests does.readable (stays_said at_mid says);
         leaves = all_leaves says;
         rests = λ h rests. tt;

@@ -71,7 +71,7 @@ module _ (first mid now : HostState) (start : Station) (said : first.said ≡ mi
 
   stopped_since : {lines : ℕ} {past maybe : List Entry} (stop : Stop) → HasStopped stop mid start lines past maybe now → HasStopped stop first start lines past maybe now
   unfolding done_since last_since
-  stopped_since stop (inl is) = inl (record { why = is.why; done = done_since is.done; doubt = is.doubt; said = rw (script, said) is.said })
+  stopped_since stop (inl is) = inl (record { why = is.why; done = done_since is.done; doubt = is.doubt; said = rw (script, said) is.said; call = rw script is.call })
   stopped_since stop (inr (inl is)) = inr (inl (record { why = is.why; count = is.count; refused = refused_since is.refused }))
   stopped_since stop (inr (inr (inl is))) = inr (inr (inl (record {
     last = last_since is.last;
@@ -79,6 +79,7 @@ module _ (first mid now : HostState) (start : Station) (said : first.said ≡ mi
     why = is.why;
     doubt = is.doubt;
     said = rw (script, said) is.said;
+    call = is.call;
   })))
   stopped_since stop (inr (inr (inr (inl is)))) = inr (inr (inr (inl (record {
     why = is.why;
@@ -133,6 +134,7 @@ module _ {first mid now : HostState} (start : Station) {outcome : Outcome} (soun
     keeps = keeps-then quiet.keeps is.keeps;
     ended = λ f. ended_since first mid now start (sym (quiet.said f)) (sym (quiet.script f)) is.ending outcome.lines outcome.history (option_to_list outcome.doubt) (is.ended (still_faithful quiet.keeps f));
     stops = counts_since is.ending first mid now quiet.keeps is.stops;
+    full = is.full;
     rests = λ h rests. is.rests (still_honest quiet.keeps h) (rests_mid h rests);
   }
 

@@ -3,6 +3,7 @@ use Rattle.std.proofs.Common.{◌≡◌, inl, inr, ℕ, ◌+◌, ◌≤◌, List
 use Rattle.host_model.specs.Picture.{Picture}
 use Rattle.host_model.specs.State.{HostState, picture_now}
 use Rattle.host_model.specs.Calls.{IsSound, Keeps}
+use Rattle.host_model.specs.Kinds.{IsOfScript}
 use Rattle.host_model.specs.Leaves.{LeavesOnly, AllSettled}
 use Rattle.host_model.specs.declared.fault.Stop.{Stop}
 use Rattle.host_model.proofs.CallsLemmas.{keeps-then, still_faithful, still_honest, was_faithful}
@@ -149,9 +150,9 @@ module _ {first : HostState} {start : Station} {n : ℕ} {pending : List ℕ} {s
               }
 
   -- one line more is served to its end
-  pub served_more : {mid : HostState} {text pending' : List ℕ} (listens : Listens now mid) → IsSound mid → (takes : IsTrue now.is_faithful → TakesLine (pending ++ now.script) text (pending' ++ mid.script)) → (number : ℕ) → number ≡ n + 1 → n + 1 ≤ max_lines
+  pub served_more : {mid : HostState} {text pending' : List ℕ} (listens : Listens now mid) → IsSound mid → (takes : IsTrue now.is_faithful → TakesLine (pending ++ now.script) text (pending' ++ mid.script)) → (number : ℕ) → number ≡ n + 1 → n + 1 ≤ max_lines → IsOfScript mid.last
       → {T : Type 0} {u : T} {store' : StoreValue} {later : HostState} → ServesLine number (line_of text) {T = T} (Ok u) store store' mid later → HasServed first start (n + 1) pending' store' later
-  served_more {mid} {text} {pending'} listens sound_mid takes number number_is few {store' = store'} {later = later} serves = record {
+  served_more {mid} {text} {pending'} listens sound_mid takes number number_is few call {store' = store'} {later = later} serves = record {
     keeps = keeps-then served.keeps (keeps-then listens.keeps serves.keeps);
     running = serves.running;
     sure = serves.sure;
@@ -167,6 +168,7 @@ module _ {first : HostState} {start : Station} {n : ℕ} {pending : List ℕ} {s
         let reply = reply_to number (line_of text) store.tables in
         serves.said (still_faithful listens.keeps (still_faithful served.keeps f)) ∙ ap (λ l. l ++ reply) ((listens.same (still_faithful served.keeps f)).1 ∙ served.said f)
         ∙ append_assoc first.said (replies_at n (texts_of first.script) tables) reply ∙ ap (λ l. first.said ++ l) (replies_next listens sound_mid takes number number_is few serves f);
+    call = inr (serves.call call);
     readable = line_readable listens sound_mid takes number number_is few serves;
     leaves = line_leaves listens sound_mid takes number number_is few serves;
     rests = λ h rests. serves.rests (still_honest listens.keeps (still_honest served.keeps h)) (heard_rests listens h rests);

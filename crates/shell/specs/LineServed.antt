@@ -3,6 +3,7 @@ use Rattle.std.specs.Prelude.{◌≡◌, ◌⊎◌, ℕ, List, [], ◌++◌, tak
 use Rattle.host_model.specs.Picture.{Picture}
 use Rattle.host_model.specs.State.{HostState}
 use Rattle.host_model.specs.Calls.{Keeps, IsQuiet, Faulted}
+use Rattle.host_model.specs.Kinds.{IsOfScript}
 use Rattle.host_model.specs.Leaves.{LeavesOnly, Shows, AllSettled}
 use Rattle.host_model.specs.declared.fault.HostFault.TheVariants.{Disk, Source, Sink, Memory}
 use Rattle.host_model.specs.declared.fault.Stop.{Stop}
@@ -79,6 +80,7 @@ pub record IsUnchanged (before now : HostState) : Type 0 where
   pub script : now.script ≡ before.script
   pub faults : now.faults ≡ before.faults
   pub found : now.before ≡ before.before
+  pub last : now.last ≡ before.last
   pub moment : now.moment ≡ before.moment
 
 -- ---- where it stops
@@ -129,6 +131,8 @@ pub record DoesLine (number : ℕ) (line : Line) (result : Result (Option Answer
   pub stops : IfErr result (λ stop. StopCounts stop before now)
   -- for want of room or memory nothing is asked of any host
   pub unasked : IfErr result (λ stop. IsUnasked stop → IsUnchanged before now)
+  -- a line that has no answer asks nothing either
+  pub blank : IfOk result (λ answer. answer ≡ None → IsUnchanged before now)
   pub readable : StaysReadable before now
   pub leaves : IsTrue before.is_honest → AllSettled before → LeavesOnly (Shows (λ image. SaysTables image old.tables ⊎ SaysTables image (tables_after line old.tables)) before.said) before now
   pub rests : IsTrue before.is_honest → AllSettled before → OnOk result (AllSettled now)
@@ -146,6 +150,8 @@ pub record ServesLine (number : ℕ) (line : Line) {T : Type 0} (result : Result
   pub stops : IfErr result (λ stop. StopCounts stop before now)
   -- a line that lacks room asks nothing of any host
   pub full : IfErr result (λ stop. stop ≡ Full → IsUnchanged before now)
+  -- where the last call before the line heard or said, so does the last one behind it
+  pub call : IsOfScript before.last → OnOk result (IsOfScript now.last)
   pub readable : StaysReadable before now
   pub leaves : IsTrue before.is_honest → AllSettled before → LeavesOnly (IsLinePicture number line old.tables before.said) before now
   pub rests : IsTrue before.is_honest → AllSettled before → OnOk result (AllSettled now)

@@ -3,6 +3,7 @@ use Rattle.std.specs.Prelude.{◌≡◌, ◌⊎◌, Bool, true, false, Result, I
 use Rattle.host_model.specs.Picture.{Image}
 use Rattle.host_model.specs.State.{HostState}
 use Rattle.host_model.specs.Calls.{IsQuiet, IsOfFiles, Faulted, Looks}
+use Rattle.host_model.specs.Kinds.{IsLook}
 use Rattle.host_model.specs.Leaves.{LeavesOnly, Shows, AllSettled}
 use Rattle.host_model.specs.declared.fault.Stop.TheVariants.{Host, Damaged, Full, NoMemory}
 use Rattle.node_store.specs.Image.{IsBorn, IsUnborn, IsStored}
@@ -29,12 +30,12 @@ abbrev pub Begins : Bool → Image → Station → Type 0
 Begins false image start = IsStoreOf image start
 Begins true image start = IsUnbornDisk image × IsNewStation start
 
--- why no store was opened
+-- Why no store was opened. Where the nodes are damaged, the last call only asked.
 abbrev pub OpenStops : GroundStop → HostState → HostState → Type 0
 OpenStops NotInit old new = IsTrue old.is_faithful → IsUnborn nodes_name old.files
 OpenStops NotBlank old new = ⊥
 OpenStops (Stopped (Host fault)) old new = IsOfFiles fault × Faulted fault old new
-OpenStops (Stopped (Damaged named)) old new = (named ≡ nodes_name) × (IsTrue old.is_faithful → IsBorn nodes_name old.files × SaysNoTables old.files)
+OpenStops (Stopped (Damaged named)) old new = (named ≡ nodes_name) × (IsTrue old.is_faithful → IsBorn nodes_name old.files × SaysNoTables old.files) × IsLook new.last
 OpenStops (Stopped Full) old new = ⊥
 OpenStops (Stopped NoMemory) old new = Unit {0}
 

@@ -3,9 +3,10 @@ use Rattle.std.specs.Prelude.{◌≡◌, ◌⊎◌, ℕ, ◌++◌, Bool, true, f
 use Rattle.host_model.specs.Picture.{Picture}
 use Rattle.host_model.specs.State.{HostState}
 use Rattle.host_model.specs.Calls.{Keeps}
+use Rattle.host_model.specs.Kinds.{IsOfScript}
 use Rattle.host_model.specs.Leaves.{LeavesOnly, AllSettled}
 use Rattle.host_model.specs.declared.fault.Stop.{Stop}
-use Rattle.host_model.specs.declared.fault.Stop.TheVariants.{NoMemory}
+use Rattle.host_model.specs.declared.fault.Stop.TheVariants.{Full, NoMemory}
 use Rattle.store_layout.specs.NewStore.{IsUnbornDisk}
 use Rattle.ground_store.specs.declared.stop.GroundStop.{GroundStop}
 use Rattle.table_store.specs.Tables.{Tables}
@@ -29,6 +30,8 @@ pub record ServesScript (first : HostState) (start : Station) (outcome : Outcome
   pub keeps : Keeps first now
   pub ended : IsTrue first.is_faithful → HasEnded ending first start outcome.lines outcome.history (option_to_list outcome.doubt) now
   pub stops : IfErr ending (λ stop. StopCounts stop first now)
+  -- for want of room, of any host: the last call heard or said
+  pub full : IfErr ending (λ stop. stop ≡ Full → IsOfScript now.last)
   pub rests : IsTrue first.is_honest → AllSettled first → OnOk ending (AllSettled now)
 
 -- the disk is unborn still, and nothing was said

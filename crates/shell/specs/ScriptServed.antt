@@ -3,6 +3,7 @@ use Rattle.std.specs.Prelude.{◌≡◌, ◌⊎◌, ℕ, ◌+◌, List, [], ◌+
 use Rattle.script_words.specs.Replies.{numbered}
 use Rattle.script_words.specs.Lines.{line_of}
 use Rattle.host_model.specs.State.{HostState}
+use Rattle.host_model.specs.Kinds.{IsOfScript}
 use Rattle.host_model.specs.declared.fault.HostFault.TheVariants.{Disk, Source, Sink, Memory}
 use Rattle.host_model.specs.declared.fault.Stop.{Stop}
 use Rattle.host_model.specs.declared.fault.Stop.TheVariants.{Host, Damaged, Full, NoMemory}
@@ -92,6 +93,8 @@ pub record StopsHearing (stop : Stop) (first : HostState) (start : Station) (lin
   pub done : HasDone first start lines past now
   pub doubt : maybe ≡ []
   pub said : HasReplied first start.tables lines now
+  -- the last call heard or said, or nothing was heard yet
+  pub call : IsOfScript now.last ⊎ (lines ≡ 0) × (now.script ≡ first.script)
 
 -- that there is no such line wasn't said whole
 pub record StopsRefusing (stop : Stop) (first : HostState) (start : Station) (lines : ℕ) (past maybe : List Entry) (now : HostState) : Type 0 where
@@ -106,6 +109,8 @@ pub record StopsBefore (stop : Stop) (first : HostState) (start : Station) (line
   pub why : IsEarlyStop stop (line_of last.text) done.station
   pub doubt : maybe ≡ []
   pub said : HasReplied first start.tables last.before now
+  -- the last call heard or said: the line asked nothing
+  pub call : IsOfScript now.last
 
 -- its commit may have been made: its entry is in doubt
 pub record StopsInside (stop : Stop) (first : HostState) (start : Station) (lines : ℕ) (past maybe : List Entry) (now : HostState) : Type 0 where

@@ -1,9 +1,10 @@
 -- What the private functions that serve a script ensure.
-use Rattle.std.specs.Prelude.{◌≡◌, ℕ, ◌+◌, ◌≤◌, List, [], ◌++◌, take, drop, length, None, codes, Result, IfOk, IfErr, OnOk, IsTrue}
+use Rattle.std.specs.Prelude.{◌≡◌, ◌⊎◌, ℕ, ◌+◌, ◌≤◌, List, [], ◌++◌, take, drop, length, None, codes, Result, IfOk, IfErr, OnOk, IsTrue}
 use Rattle.script_words.specs.Replies.{numbered}
 use Rattle.host_model.specs.Picture.{Picture}
 use Rattle.host_model.specs.State.{HostState}
 use Rattle.host_model.specs.Calls.{Keeps}
+use Rattle.host_model.specs.Kinds.{IsOfScript}
 use Rattle.host_model.specs.Leaves.{LeavesOnly, AllSettled}
 use Rattle.host_model.specs.declared.fault.Stop.{Stop}
 use Rattle.script_source.specs.Script.{lines_of}
@@ -37,6 +38,8 @@ pub record HasServed (first : HostState) (start : Station) (count : ℕ) (pendin
   pub walks : IsTrue first.is_faithful → Walks (take count (texts_of first.script)) start (station_of store)
   pub history : IsTrue first.is_faithful → store.history ≡ entries_at count (texts_of first.script) start.tables
   pub said : IsTrue first.is_faithful → HasReplied first start.tables count now
+  -- the last call heard or said, or nothing is held yet
+  pub call : (pending ≡ []) ⊎ IsOfScript now.last
   pub readable : StaysReadable first now
   pub leaves : IsTrue first.is_honest → AllSettled first → LeavesOnly (IsScriptPicture start.tables (texts_of first.script) count first.said) first now
   pub rests : IsTrue first.is_honest → AllSettled first → AllSettled now

@@ -8,6 +8,7 @@ ghost use Rattle.shell.specs.Ending.{unbegun};
 ghost use Rattle.shell.specs.Readable.{StaysReadable};
 ghost use Rattle.shell.specs.Running.{ServesScript, RunsStore, HasNoMemory};
 ghost use Rattle.host_model.specs.Calls.{Keeps};
+ghost use Rattle.host_model.specs.Kinds.{IsOfScript};
 ghost use Rattle.host_model.specs.Leaves.{AllSettled};
 ghost use Rattle.shell.specs.LineServed.{IsSure, StopCounts};
 ghost use Rattle.shell.specs.ScriptServed.{HasEnded};
@@ -103,6 +104,7 @@ fn serve<H: Host>(
     ensures keeps { Keeps (H.state host.old) (H.state host.new) }
     ensures ended { IsTrue (H.state host.old).is_faithful → HasEnded result (H.state host.old) (station_of store.old) lines.new store.new.history store.new.doubt (H.state host.new) }
     ensures stops { IfErr result (λ stop. StopCounts stop (H.state host.old) (H.state host.new)) }
+    ensures full { IfErr result (λ stop. stop ≡ Stop.Full → IsOfScript (H.state host.new).last) }
     ensures readable { StaysReadable (H.state host.old) (H.state host.new) }
     ensures crash { IsTrue (H.state host.old).is_honest → AllSettled (H.state host.old) → LeavesFronts (H.state host.old) store.old.tables store.new.history store.new.doubt (H.state host.new) }
     ensures rests { IsTrue (H.state host.old).is_honest → AllSettled (H.state host.old) → OnOk result (AllSettled (H.state host.new)) }

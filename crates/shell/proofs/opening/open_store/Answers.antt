@@ -11,7 +11,7 @@ pub returns-in_err-store : goal.returns-in_err-store
 returns-in_err-store g c =
     let p = err_from_is_err_and c.from_residual-in_err-store.result c.from_residual-in_err-store.ensures.1 in
     let nodes = c.in_ok-nodes.ensures in
-    rw (p.1, p.2) (unread c.in_ok-nodes.nodes nodes.name nodes.looks nodes.stored _ nodes.born c.in_err-store.ensures.stops)
+    rw (p.1, p.2) (unread c.in_ok-nodes.nodes nodes.name nodes.looks nodes.stored _ nodes.born nodes.last c.in_err-store.ensures.stops)
 
 pub returns : goal.returns
 returns g c =

@@ -5,7 +5,7 @@ pub returns-clause-serves : goal.returns-clause-serves
 returns-clause-serves g c =
     let serve = c.serve-ending.ensures in
     let finish = c.finish-history.ensures in
-    serves_told c.serve-ending.result _ _ _ _ _ _ c.ended.ensures finish.history finish.doubt serve.keeps serve.ended serve.stops serve.rests
+    serves_told c.serve-ending.result _ _ _ _ _ _ c.ended.ensures finish.history finish.doubt serve.keeps serve.ended serve.stops serve.full serve.rests
 
 pub returns-clause-crash : goal.returns-clause-crash
 returns-clause-crash g c =

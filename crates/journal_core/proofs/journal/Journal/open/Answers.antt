@@ -20,4 +20,5 @@ returns-clause-stops g c = (
       let is = rw c.in-Some.is at (c.in_ok-bytes.ensures.is f) in
       let none : HasNone c.deref.result.now = rw c.in-None.is at c.in_ok-contents.ensures in
       damaged is (rw c.deref.ensures.value at none),
+  c.in_ok-bytes.ensures.last,
 )

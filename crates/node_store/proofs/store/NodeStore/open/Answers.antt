@@ -12,4 +12,4 @@ returns-in_err-journal-clause-stops g c =
 pub returns-in_default-clause-stops : goal.returns-in_default-clause-stops
 returns-in_default-clause-stops g c =
     let none = rw c.in_default.is at c.in_ok-nodes.ensures.made in
-    (c.in_ok-copy.ensures, λ faithful. no_nodes (c.in_ok-journal.ensures.holds faithful) (subst FoldsNone c.records.ensures none))
+    (c.in_ok-copy.ensures, λ faithful. no_nodes (c.in_ok-journal.ensures.holds faithful) (subst FoldsNone c.records.ensures none), c.in_ok-journal.ensures.last)

@@ -1,10 +1,10 @@
-use Rattle.std.proofs.Common.{◌≡◌, ◌++◌, ℕ, Bool, true, false, List, [], IsTrue, sym, ◌∙◌, ap, subst, arith, refl}
+use Rattle.std.proofs.Common.{◌≡◌, inr, ◌++◌, ℕ, Bool, true, false, List, [], IsTrue, sym, ◌∙◌, ap, subst, arith, refl}
 use Rattle.std.proofs.lemmas.List.{append-nil}
 use Rattle.host_model.specs.State.{HostState}
 use Rattle.host_model.proofs.CallsLemmas.{still_faithful}
 use Rattle.script_source.specs.Hearing.{Listens}
 use Rattle.script_source.specs.Feeds.{HasNoFeed, MovesLine, Fills}
-use Rattle.script_source.proofs.HearingLemmas.{listens-refl, listens-then}
+use Rattle.script_source.proofs.HearingLemmas.{listens-refl, listens-then, heard_then, heard_on}
 use Rattle.script_source.proofs.FeedLemmas.{no_feed-nil, no_feed_longer, moved_ended, moved_unended, moved_front, feed_against_none, still_held}
 use Rattle.script_source.proofs.LinesLemmas.{meets_long_line, takes_ended, takes_last}
 use Rattle.script_source.proofs.pieces.Pieces.next_line.Goals as goal
@@ -20,6 +20,7 @@ loop-line-init g c = record {
   none = subst (λ (l : List ℕ). HasNoFeed l) (sym c.new-line.ensures.items) no_feed-nil;
   listens = listens-refl (g.H.Host.state c.args.host.now);
   left = λ f. ap (λ (l : List ℕ). l ++ (c.args.self.now ++ (g.H.Host.state c.args.host.now).script)) c.new-line.ensures.items;
+  last = inr (refl, inr refl);
   held = λ has. (refl, refl);
 }
 
@@ -74,6 +75,7 @@ loop-line-preserved g c =
       short = omega arith;
       none = no_feed_longer _ _ _ _ longer c.in_ok-is_ended.ensures c.loop-line.invariant.none;
       listens = listens-then c.loop-line.invariant.listens c.fill.ensures.listens;
+      last = heard_on (λ h. (g.H.Host.state h).last) _ _ _ _ (heard_then (λ h. (g.H.Host.state h).last) _ _ _ _ _ c.loop-line.invariant.last c.fill.ensures.last);
       held = λ has. absurd (feed_against_none _ (subst (λ (l : List ℕ). HasNoFeed l) (still_held _ _ _ _ _ _ has (c.loop-line.invariant.held has) c.fill.ensures.held).0 moves.0) has);
       left = λ f. sym (moved_unended _ _ _ longer now.script moves) ∙ left_of _ _ c.loop-line.invariant.listens c.in_ok-fill.ensures.fills c.loop-line.invariant.left f;
     }
@@ -96,3 +98,18 @@ returns-clause-takes g c = λ f.
     let left = left_of _ _ c.loop-line.invariant.listens c.in_ok-fill.ensures.fills c.loop-line.invariant.left f in
     let whole = sym left ∙ ap (λ (l : List ℕ). line ++ l) nothing ∙ append-nil line in
     takes_last _ line _ c.last_line.result whole nothing c.loop-line.invariant.none c.loop-line.invariant.short c.last_line.ensures
+
+pub returns-in_err-fill-clause-last : goal.returns-in_err-fill-clause-last
+returns-in_err-fill-clause-last g c = heard_then (λ h. (g.H.Host.state h).last) _ _ _ _ _ c.loop-line.invariant.last c.fill.ensures.last
+
+pub returns-in_err-is_ended-clause-last : goal.returns-in_err-is_ended-clause-last
+returns-in_err-is_ended-clause-last g c = heard_then (λ h. (g.H.Host.state h).last) _ _ _ _ _ c.loop-line.invariant.last c.fill.ensures.last
+
+pub returns-then-len-gt-MAX_LINE-clause-last : goal.returns-then-len-gt-MAX_LINE-clause-last
+returns-then-len-gt-MAX_LINE-clause-last g c = heard_then (λ h. (g.H.Host.state h).last) _ _ _ _ _ c.loop-line.invariant.last c.fill.ensures.last
+
+pub returns-then-is_ended-clause-last : goal.returns-then-is_ended-clause-last
+returns-then-is_ended-clause-last g c = heard_then (λ h. (g.H.Host.state h).last) _ _ _ _ _ c.loop-line.invariant.last c.fill.ensures.last
+
+pub returns-clause-last : goal.returns-clause-last
+returns-clause-last g c = heard_then (λ h. (g.H.Host.state h).last) _ _ _ _ _ c.loop-line.invariant.last c.fill.ensures.last

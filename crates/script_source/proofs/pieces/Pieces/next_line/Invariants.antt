@@ -1,5 +1,6 @@
-use Rattle.std.proofs.Common.{◌≡◌, ◌++◌, ◌-◌, ◌≤◌, length, IsTrue, vec_len}
+use Rattle.std.proofs.Common.{◌≡◌, ◌⊎◌, ◌++◌, ◌-◌, ◌<◌, ◌≤◌, length, Some, IsTrue, vec_len}
 use Rattle.std.specs.Prelude.{Contains}
+use Rattle.host_model.specs.declared.call.HostCall.TheVariants.{Hear}
 use Rattle.script_source.specs.Hearing.{Listens}
 use Rattle.script_source.specs.Feeds.{HasNoFeed}
 use Rattle.script_source.proofs.pieces.Pieces.next_line.Given as goal
@@ -10,6 +11,7 @@ invariant-loop-line g l = record {
   none : HasNoFeed l.line.items;
   listens : Listens (g.H.Host.state l.fn.host) (g.H.Host.state l.host);
   left : IsTrue (g.H.Host.state l.fn.host).is_faithful → l.line.items ++ (l.self ++ (g.H.Host.state l.host).script) ≡ l.fn.self ++ (g.H.Host.state l.fn.host).script;
+  last : ((g.H.Host.state l.host).last ≡ Some Hear) ⊎ (l.host ≡ l.fn.host) × ((0 < length l.fn.self) ⊎ (l.self ≡ l.fn.self));
   held : Contains l.fn.self 10 → (l.self ≡ l.fn.self) × (l.host ≡ l.fn.host);
 }
 
