@@ -5,7 +5,7 @@ ghost use Rattle.host_files.specs.Silent.{no_tally};
 use crate::directory::Directory;
 use crate::fault_counts::FaultCounts;
 use crate::file_fault::FileFault;
-use host_model::{Host, HostFault, Name, Stop};
+use host_model::{Host, HostCall, HostFault, Name, Stop};
 use std::alloc::{AllocError, Global};
 use std::fs::Files;
 use std::io;
@@ -13,7 +13,7 @@ use std::io::{ErrorKind, Input, Print, Read};
 use std::marker::Model;
 
 /// The files of one directory, the script on the standard input, and the replies on the standard output. Contracts see
-/// its four counts of faults, as they stand and as the last call found them.
+/// its four counts of faults, as they stand and as the last call found them, and which kind of call that was.
 ///
 /// What a disk or a stream holds is known to no contract, so this host is neither faithful nor honest, and its contracts
 /// say only which fault a call may answer and that it was counted. On a system that keeps what it promises each call does
@@ -35,6 +35,7 @@ pub struct FilesHost<R: Files + Input + Print + Drop> {
     faults: FaultCounts,
     // the counts that the newest call found
     found: FaultCounts,
+    last: Option<HostCall>,
 }
 
 impl<R: Files + Input + Print + Drop> Model for FilesHost<R> {
@@ -42,7 +43,7 @@ impl<R: Files + Input + Print + Drop> Model for FilesHost<R> {
 
     ghost Value = { Tally };
 
-    ghost view = { λ host. record { now = host.faults; found = host.found } };
+    ghost view = { λ host. record { now = host.faults; found = host.found; last = host.last } };
 }
 
 impl<R: Files + Input + Print + Drop> FilesHost<R> {
@@ -60,6 +61,7 @@ impl<R: Files + Input + Print + Drop> FilesHost<R> {
             directory,
             faults: FaultCounts::new(),
             found: FaultCounts::new(),
+            last: None,
         })
     }
 }
@@ -77,6 +79,7 @@ impl<R: Files + Input + Print + Drop> Host for FilesHost<R> {
     /// One call of the system for each entry of the directory, and time as for a sort.
     fn names(&mut self, alloc: Global) -> Result<Vec<Name>, Stop> {
         self.found = self.faults.copy();
+        self.last = Some(HostCall::Names);
         match self.directory.names(&self.rt, alloc) {
             Ok(names) => Ok(names),
             Err(FileFault::Memory) => Err(Stop::NoMemory),
@@ -93,6 +96,7 @@ impl<R: Files + Input + Print + Drop> Host for FilesHost<R> {
     /// Two syncs, of the file and of the directory.
     fn create(&mut self, name: &Name) -> Result<(), HostFault> {
         self.found = self.faults.copy();
+        self.last = Some(HostCall::Create);
         let done = self.directory.create(&self.rt, name);
         self.faults.counted(done)
     }
@@ -102,6 +106,7 @@ impl<R: Files + Input + Print + Drop> Host for FilesHost<R> {
     /// One sync, of the directory.
     fn remove(&mut self, name: &Name) -> Result<(), HostFault> {
         self.found = self.faults.copy();
+        self.last = Some(HostCall::Remove);
         let done = self.directory.remove(&self.rt, name);
         self.faults.counted(done)
     }
@@ -109,6 +114,7 @@ impl<R: Files + Input + Print + Drop> Host for FilesHost<R> {
     /// How many bytes the file has, or none exactly where it isn't there. One call of the system.
     fn length(&mut self, name: &Name) -> Result<Option<u64>, HostFault> {
         self.found = self.faults.copy();
+        self.last = Some(HostCall::Length);
         let length = self.directory.length(&self.rt, name);
         self.faults.counted(length)
     }
@@ -118,6 +124,7 @@ impl<R: Files + Input + Print + Drop> Host for FilesHost<R> {
     /// One call of the system where the last read or write ended here, two elsewhere.
     fn read(&mut self, name: &Name, at: u64, into: &mut [u8]) -> Result<(), HostFault> {
         self.found = self.faults.copy();
+        self.last = Some(HostCall::Read);
         let done = self.directory.read(&self.rt, name, at, into);
         self.faults.counted(done)
     }
@@ -128,6 +135,7 @@ impl<R: Files + Input + Print + Drop> Host for FilesHost<R> {
     /// read or write ended here, two elsewhere.
     fn write(&mut self, name: &Name, at: u64, bytes: &[u8]) -> Result<(), HostFault> {
         self.found = self.faults.copy();
+        self.last = Some(HostCall::Write);
         let done = self.directory.write(&self.rt, name, at, bytes);
         self.faults.counted(done)
     }
@@ -138,6 +146,7 @@ impl<R: Files + Input + Print + Drop> Host for FilesHost<R> {
     /// after a fault in a `create` or `remove`.
     fn sync(&mut self, name: &Name) -> Result<(), HostFault> {
         self.found = self.faults.copy();
+        self.last = Some(HostCall::Sync);
         let done = self.directory.sync(&self.rt, name);
         self.faults.counted(done)
     }
@@ -145,6 +154,7 @@ impl<R: Files + Input + Print + Drop> Host for FilesHost<R> {
     /// The next bytes of the standard input, at least one, or 0 at its end. Waits until there are some. One call of the system.
     fn hear(&mut self, into: &mut [u8]) -> Result<usize, HostFault> {
         self.found = self.faults.copy();
+        self.last = Some(HostCall::Hear);
         match heard(&mut self.input, into) {
             Ok(count) => Ok(count),
             Err(_) => {
@@ -158,6 +168,7 @@ impl<R: Files + Input + Print + Drop> Host for FilesHost<R> {
     /// reader takes less at once. A crash inside leaves a front of them said.
     fn say(&mut self, bytes: &[u8]) -> Result<(), HostFault> {
         self.found = self.faults.copy();
+        self.last = Some(HostCall::Say);
         match Print::write_all(&self.rt, bytes) {
             Ok(()) => Ok(()),
             Err(_) => {

@@ -16,6 +16,7 @@ starts files script failing stop known rest plan is rest_is new = record {
   script_is = rest_is;
   faults = ap (λ (c : FaultCounts). faults_of c) new.faults;
   before = ap (λ (c : FaultCounts). faults_of c) new.found;
+  last = new.last;
   plan = new;
   settled = record { each = λ p may. subst (λ (k : Known). May k.past k.now p → p.image ≡ k.now.image) (sym is) (λ at_once. ap (λ (q : Picture). q.image) at_once) may };
   honest = refl;

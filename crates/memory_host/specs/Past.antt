@@ -1,9 +1,10 @@
 -- What a crash may leave, from what is read now and the events of the past, of which the newest comes first.
-use Rattle.std.specs.Prelude.{◌≡◌, ◌⊎◌, ℕ, ◌≤◌, ◌-◌, List, [], ◌∷◌, ◌++◌, length, take, drop, Some, true}
+use Rattle.std.specs.Prelude.{◌≡◌, ◌⊎◌, ℕ, ◌≤◌, ◌-◌, List, [], ◌∷◌, ◌++◌, length, take, drop, Option, Some, true}
 use Rattle.std.specs.Option.{option_map}
 use Rattle.host_model.specs.Picture.{Picture, file_at, set_file, with_file, FileStep, Becomes, MayBecome}
 use Rattle.host_model.specs.Moves.{Reached}
 use Rattle.host_model.specs.State.{Faults, HostState}
+use Rattle.host_model.specs.declared.call.HostCall.{HostCall}
 use Rattle.host_model.specs.Calls.{TearsFile, overlaid}
 use Rattle.memory_host.specs.Files.{as_file}
 use Rattle.memory_host.specs.declared.event.Written.{Written}
@@ -47,13 +48,14 @@ abbrev pub LeftSince : List Event → Picture → ℕ → Picture → Type 0
 LeftSince [] now t p = (t ≤ 0) × (p ≡ now)
 LeftSince (e ∷ es) now t p = LeftSince es (before e now) t p ⊎ (t ≤ length (e ∷ es)) × May (e ∷ es) now p
 
-abbrev pub state_of : List Event → Picture → List ℕ → Faults → Faults → HostState
-state_of past now script faults found = record {
+abbrev pub state_of : List Event → Picture → List ℕ → Faults → Faults → Option HostCall → HostState
+state_of past now script faults found last = record {
   files = now.image;
   said = now.said;
   script = script;
   faults = faults;
   before = found;
+  last = last;
   moment = length past;
   may_leave = May past now;
   left_since = LeftSince past now;

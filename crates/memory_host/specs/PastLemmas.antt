@@ -5,6 +5,7 @@ use Rattle.host_model.specs.Picture.{Picture, Same, file_at, FileStep, Becomes, 
 use Rattle.host_model.proofs.Images.{set_file-set_file, set_file-own, file_nothing}
 use Rattle.host_model.specs.Moves.{Reached, Moves}
 use Rattle.host_model.specs.State.{Faults}
+use Rattle.host_model.specs.declared.call.HostCall.{HostCall}
 use Rattle.host_model.specs.Calls.{TearsFile, IsSound, SaysFront}
 use Rattle.memory_host.specs.declared.event.Written.{Written}
 use Rattle.memory_host.specs.declared.event.Event.{Event}
@@ -44,8 +45,8 @@ only_now [] now p left = left.1
 only_now (e ∷ es) now p (inl left) = absurd (let late = not_later es (before e now) (length (e ∷ es)) p left in omega arith)
 only_now (e ∷ es) now p (inr left) = left.1
 
-pub sound : (past : List Event) (now : Picture) (script : List ℕ) (faults found : Faults) → IsSound (state_of past now script faults found)
-sound past now script faults found = record {
+pub sound : (past : List Event) (now : Picture) (script : List ℕ) (faults found : Faults) (last : Option HostCall) → IsSound (state_of past now script faults found last)
+sound past now script faults found last = record {
   faithful = λ h. h;
   stays = λ h. stays past now;
   said = λ h p may. said_is past now p may;
@@ -54,8 +55,8 @@ sound past now script faults found = record {
 }
 
 -- no event
-pub moves_same : (past : List Event) (now : Picture) (script script' : List ℕ) (faults faults' found found' : Faults) → Moves Same Same (state_of past now script faults found) (state_of past now script' faults' found')
-moves_same past now script script' faults faults' found found' = record {
+pub moves_same : (past : List Event) (now : Picture) (script script' : List ℕ) (faults faults' found found' : Faults) (last last' : Option HostCall) → Moves Same Same (state_of past now script faults found last) (state_of past now script' faults' found' last')
+moves_same past now script script' faults faults' found found' last last' = record {
   later = omega arith;
   between = λ t p le left. inl left;
   remembers = λ t p le left. left;
@@ -63,14 +64,14 @@ moves_same past now script script' faults faults' found found' = record {
 }
 
 -- an event more
-pub moves_push : (past : List Event) (e : Event) (was now : Picture) (script script' : List ℕ) (faults faults' found found' : Faults) (step : Picture → Picture → Type 0) → before e now ≡ was
+pub moves_push : (past : List Event) (e : Event) (was now : Picture) (script script' : List ℕ) (faults faults' found found' : Faults) (last last' : Option HostCall) (step : Picture → Picture → Type 0) → before e now ≡ was
     → ((p : Picture) → May (e ∷ past) now p → Reached (May past was) step p)
-    → Moves step step (state_of past was script faults found) (state_of (e ∷ past) now script' faults' found')
-moves_push past e was now script script' faults faults' found found' step undone here = record {
+    → Moves step step (state_of past was script faults found last) (state_of (e ∷ past) now script' faults' found' last')
+moves_push past e was now script script' faults faults' found found' last last' step undone here = record {
   later = omega arith;
   between = λ t p le left. elim left [
     | inl earlier ↦ inl (subst (λ (q : Picture). LeftSince past q t p) undone earlier)
-    | inr last ↦ inr (here p last.1)
+    | inr newest ↦ inr (here p newest.1)
   ];
   remembers = λ t p le left. inl (subst (λ (q : Picture). LeftSince past q t p) (sym undone) left);
   at_end = λ p may. here p may;

@@ -6,6 +6,7 @@ use Rattle.std.specs.Ordering.{nat_cmp}
 use Rattle.std.specs.BTreeSet.{contains}
 use Rattle.host_model.specs.State.{Faults}
 use Rattle.host_model.specs.Calls.{NoneFalls}
+use Rattle.host_model.specs.declared.call.HostCall.{HostCall}
 use Rattle.host_model.specs.declared.fault.HostFault.{HostFault}
 use Rattle.host_model.specs.declared.fault.HostFault.TheVariants.{Disk, Source, Sink, Memory}
 use Rattle.memory_host.specs.declared.plan.FaultCounts.{FaultCounts}
@@ -52,20 +53,21 @@ count_of Source counts = counts.source
 count_of Sink counts = counts.sink
 count_of Memory counts = counts.memory
 
--- The call has the next number, and the counts that it finds are kept. Exactly where it doesn't work, this one count rises.
-pub record Plans (fault : HostFault) (turn : Turn) (old new : Plan) : Type 0 where
+-- The call has the next number, and its kind and the counts that it finds are kept. Exactly where it doesn't work, this one count rises.
+pub record Plans (call : HostCall) (fault : HostFault) (turn : Turn) (old new : Plan) : Type 0 where
   pub failing : new.failing ≡ old.failing
   pub stop : new.stop ≡ old.stop
   pub calls : new.calls ≡ next_count old.calls
   pub is : turn ≡ turn_of new
   pub found : new.found ≡ old.faults
+  pub last : new.last ≡ Some call
   pub faults : new.faults ≡ counted fault turn old.faults
   pub falls : NoneFalls (faults_of old.faults) (faults_of new.faults)
 
 -- the call has the next number, and works or not
-abbrev pub NextFails : HostFault → Bool → Plan → Plan → Type 0
-NextFails fault true old new = Plans fault Fails old new ⊎ Plans fault Stops old new ⊎ Plans fault Down old new
-NextFails fault false old new = Plans fault Works old new
+abbrev pub NextFails : HostCall → HostFault → Bool → Plan → Plan → Type 0
+NextFails call fault true old new = Plans call fault Fails old new ⊎ Plans call fault Stops old new ⊎ Plans call fault Down old new
+NextFails call fault false old new = Plans call fault Works old new
 
 -- no call was made, and these are to fail
 pub record IsNewPlan (failing : List ℕ) (stop : Option ℕ) (plan : Plan) : Type 0 where
@@ -74,6 +76,7 @@ pub record IsNewPlan (failing : List ℕ) (stop : Option ℕ) (plan : Plan) : Ty
   pub calls : plan.calls ≡ 0
   pub faults : plan.faults ≡ record { disk = 0; source = 0; sink = 0; memory = 0 }
   pub found : plan.found ≡ record { disk = 0; source = 0; sink = 0; memory = 0 }
+  pub last : plan.last ≡ None
 
 -- the plan after a want of memory was counted
 pub record OutOfMemory (old new : Plan) : Type 0 where

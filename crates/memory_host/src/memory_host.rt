@@ -10,7 +10,7 @@ use crate::moments::Moments;
 use crate::pick::Pick;
 use crate::plan::{Plan, Turn};
 use crate::script::Script;
-use host_model::{Host, HostFault, Name, Stop};
+use host_model::{Host, HostCall, HostFault, Name, Stop};
 use std::alloc::{AllocError, Global};
 use std::marker::Model;
 
@@ -126,7 +126,7 @@ impl Host for MemoryHost {
     ghost sound = { memory_sound };
 
     fn names(&mut self, alloc: Global) -> Result<Vec<Name>, Stop> {
-        if self.plan.fails(HostFault::Disk) {
+        if self.plan.fails(HostCall::Names, HostFault::Disk) {
             return Err(Stop::Host(HostFault::Disk));
         }
         match self.moments.names(alloc) {
@@ -136,7 +136,7 @@ impl Host for MemoryHost {
     }
 
     fn create(&mut self, name: &Name) -> Result<(), HostFault> {
-        match self.plan.next(HostFault::Disk) {
+        match self.plan.next(HostCall::Create, HostFault::Disk) {
             Turn::Works => {
                 let empty = Vec::new(self.alloc);
                 let made = self.moments.put(name, Some(empty));
@@ -151,7 +151,7 @@ impl Host for MemoryHost {
     }
 
     fn remove(&mut self, name: &Name) -> Result<(), HostFault> {
-        match self.plan.next(HostFault::Disk) {
+        match self.plan.next(HostCall::Remove, HostFault::Disk) {
             Turn::Works => {
                 let removed = self.moments.put(name, None);
                 self.plan.checked(removed)
@@ -165,7 +165,7 @@ impl Host for MemoryHost {
     }
 
     fn length(&mut self, name: &Name) -> Result<Option<u64>, HostFault> {
-        if self.plan.fails(HostFault::Disk) {
+        if self.plan.fails(HostCall::Length, HostFault::Disk) {
             return Err(HostFault::Disk);
         }
         match self.moments.get(name) {
@@ -175,7 +175,7 @@ impl Host for MemoryHost {
     }
 
     fn read(&mut self, name: &Name, at: u64, into: &mut [u8]) -> Result<(), HostFault> {
-        if self.plan.fails(HostFault::Disk) {
+        if self.plan.fails(HostCall::Read, HostFault::Disk) {
             return Err(HostFault::Disk);
         }
         let Some(file) = self.moments.get(name) else {
@@ -187,7 +187,7 @@ impl Host for MemoryHost {
     }
 
     fn write(&mut self, name: &Name, at: u64, bytes: &[u8]) -> Result<(), HostFault> {
-        match self.plan.next(HostFault::Disk) {
+        match self.plan.next(HostCall::Write, HostFault::Disk) {
             Turn::Works => {
                 let written = self.moments.write(name, at, bytes, bytes.len());
                 self.plan.checked(written)
@@ -201,7 +201,7 @@ impl Host for MemoryHost {
     }
 
     fn sync(&mut self, name: &Name) -> Result<(), HostFault> {
-        if self.plan.fails(HostFault::Disk) {
+        if self.plan.fails(HostCall::Sync, HostFault::Disk) {
             return Err(HostFault::Disk);
         }
         let synced = self.moments.sync(name);
@@ -209,14 +209,14 @@ impl Host for MemoryHost {
     }
 
     fn hear(&mut self, into: &mut [u8]) -> Result<usize, HostFault> {
-        if self.plan.fails(HostFault::Source) {
+        if self.plan.fails(HostCall::Hear, HostFault::Source) {
             return Err(HostFault::Source);
         }
         Ok(self.script.hear(into))
     }
 
     fn say(&mut self, bytes: &[u8]) -> Result<(), HostFault> {
-        match self.plan.next(HostFault::Sink) {
+        match self.plan.next(HostCall::Say, HostFault::Sink) {
             Turn::Works => {
                 let said = self.moments.say(bytes);
                 self.plan.checked(said)

@@ -3,7 +3,7 @@ ghost use Rattle.std.specs.Prelude.{◌≡◌, IfOk};
 ghost use Rattle.host_model.specs.Calls.{NoneFalls};
 ghost use Rattle.memory_host.specs.Plan.{Checks, IsNewPlan, NextFails, Plans, count_of, faults_of, raised, turn_of};
 
-use host_model::HostFault;
+use host_model::{HostCall, HostFault};
 use std::alloc::{AllocError, Global};
 use std::collections::BTreeSet;
 
@@ -74,6 +74,7 @@ pub struct Plan {
     pub faults: FaultCounts,
     // the counts that the newest call found
     pub found: FaultCounts,
+    pub last: Option<HostCall>,
 }
 
 impl Plan {
@@ -90,17 +91,19 @@ impl Plan {
             calls: 0,
             faults: FaultCounts::new(),
             found: FaultCounts::new(),
+            last: None,
         })
     }
 
-    /// Numbers a call, says what becomes of it, and counts it as this fault unless it works.
+    /// Numbers a call of this kind, says what becomes of it, and counts it as this fault unless it works.
     ///
     /// Its time grows with the logarithm of the number of failing calls.
-    pub fn next(&mut self, fault: HostFault) -> Turn
-        ensures { Plans fault result self.old self.new }
+    pub fn next(&mut self, call: HostCall, fault: HostFault) -> Turn
+        ensures { Plans call fault result self.old self.new }
     {
         self.calls = self.calls.saturating_add(1);
         self.found = self.faults;
+        self.last = Some(call);
         let turn = self.turn();
         if turn != Turn::Works {
             self.faults.raise(fault);
@@ -108,11 +111,11 @@ impl Plan {
         turn
     }
 
-    /// Numbers a call, and says if it fails, where it doesn't matter how.
-    pub fn fails(&mut self, fault: HostFault) -> bool
-        ensures { NextFails fault result self.old self.new }
+    /// Numbers a call of this kind, and says if it fails, where it doesn't matter how.
+    pub fn fails(&mut self, call: HostCall, fault: HostFault) -> bool
+        ensures { NextFails call fault result self.old self.new }
     {
-        match self.next(fault) {
+        match self.next(call, fault) {
             Turn::Works => false,
             Turn::Fails | Turn::Stops | Turn::Down => true,
         }

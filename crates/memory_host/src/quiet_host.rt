@@ -4,7 +4,7 @@ ghost use Rattle.memory_host.specs.Quiet.{CountsMemory, IsNewQuiet, quiet_state}
 
 use crate::file_map::FileMap;
 use crate::script::Script;
-use host_model::{Host, HostFault, Name, Stop};
+use host_model::{Host, HostCall, HostFault, Name, Stop};
 use std::alloc::{AllocError, Global};
 use std::marker::Model;
 
@@ -21,16 +21,18 @@ pub struct QuietHost {
     memory_faults: u64,
     // the count that the newest call found
     found: u64,
+    last: Option<HostCall>,
 }
 
 impl Model for QuietHost {
     ghost use Rattle.memory_host.specs.Quiet.{Quiet, quiet_code};
+    ghost use Rattle.host_model.specs.contracts.call.HostCall as call;
 
     ghost Value = { Quiet };
 
-    ghost coded = { quiet_code };
+    ghost coded = { quiet_code call.the_row.coded };
 
-    ghost view = { λ a. record { files = a.files; said = a.said.items; script = a.script; memory = a.memory_faults; found = a.found } };
+    ghost view = { λ a. record { files = a.files; said = a.said.items; script = a.script; memory = a.memory_faults; found = a.found; last = a.last } };
 }
 
 impl QuietHost {
@@ -45,6 +47,7 @@ impl QuietHost {
             script: Script::new(alloc, script)?,
             memory_faults: 0,
             found: 0,
+            last: None,
         })
     }
 
@@ -78,6 +81,7 @@ impl Host for QuietHost {
 
     fn names(&mut self, alloc: Global) -> Result<Vec<Name>, Stop> {
         self.found = self.memory_faults;
+        self.last = Some(HostCall::Names);
         match self.files.names(alloc) {
             Ok(names) => Ok(names),
             Err(_) => Err(Stop::NoMemory),
@@ -86,6 +90,7 @@ impl Host for QuietHost {
 
     fn create(&mut self, name: &Name) -> Result<(), HostFault> {
         self.found = self.memory_faults;
+        self.last = Some(HostCall::Create);
         let empty = Vec::new(self.alloc);
         let made = self.files.replace(self.alloc, name, empty);
         checked(&mut self.memory_faults, made)
@@ -93,12 +98,14 @@ impl Host for QuietHost {
 
     fn remove(&mut self, name: &Name) -> Result<(), HostFault> {
         self.found = self.memory_faults;
+        self.last = Some(HostCall::Remove);
         self.files.discard(name);
         Ok(())
     }
 
     fn length(&mut self, name: &Name) -> Result<Option<u64>, HostFault> {
         self.found = self.memory_faults;
+        self.last = Some(HostCall::Length);
         match self.files.get(name) {
             Some(file) => Ok(Some(file.len() as u64)),
             None => Ok(None),
@@ -107,6 +114,7 @@ impl Host for QuietHost {
 
     fn read(&mut self, name: &Name, at: u64, into: &mut [u8]) -> Result<(), HostFault> {
         self.found = self.memory_faults;
+        self.last = Some(HostCall::Read);
         let Some(file) = self.files.get(name) else {
             unreachable!()
         };
@@ -117,22 +125,26 @@ impl Host for QuietHost {
 
     fn write(&mut self, name: &Name, at: u64, bytes: &[u8]) -> Result<(), HostFault> {
         self.found = self.memory_faults;
+        self.last = Some(HostCall::Write);
         let written = self.files.write(name, at as usize, bytes);
         checked(&mut self.memory_faults, written)
     }
 
     fn sync(&mut self, _name: &Name) -> Result<(), HostFault> {
         self.found = self.memory_faults;
+        self.last = Some(HostCall::Sync);
         Ok(())
     }
 
     fn hear(&mut self, into: &mut [u8]) -> Result<usize, HostFault> {
         self.found = self.memory_faults;
+        self.last = Some(HostCall::Hear);
         Ok(self.script.hear(into))
     }
 
     fn say(&mut self, bytes: &[u8]) -> Result<(), HostFault> {
         self.found = self.memory_faults;
+        self.last = Some(HostCall::Say);
         let said = self.said.extend_from_slice(bytes);
         checked(&mut self.memory_faults, said)
     }
