@@ -13,6 +13,7 @@ pub record Agree (a b : HostState) : Type 0 where
   pub moment : a.moment ≡ b.moment
   pub faults : a.faults ≡ b.faults
   pub before : a.before ≡ b.before
+  pub last : a.last ≡ b.last
   pub may_leave : (p : Picture) → b.may_leave p → a.may_leave p
   pub may_leave_back : (p : Picture) → a.may_leave p → b.may_leave p
   pub left_since : (t : ℕ) (p : Picture) → b.left_since t p → a.left_since t p

@@ -11,6 +11,7 @@ turn-requires-clause-agree g c = record {
     moment = refl;
     faults = refl;
     before = refl;
+    last = refl;
     may_leave = λ p left. left;
     may_leave_back = λ p left. left;
     left_since = λ t p left. left;
