@@ -27,13 +27,13 @@ use Rattle.store_layout.proofs.WordLemmas.{one_line, one_bound, bound_free, free
 abbrev is_plain : ℕ → Bool
 is_plain byte = not (byte == 32)
 
-all_weaker : (test : ℕ → Bool) → ((byte : ℕ) → test byte ≡ true → is_plain byte ≡ true) → (bytes : List ℕ) → list_all test bytes ≡ true → IsTrue (is_free 32 bytes)
+pub all_weaker : (test : ℕ → Bool) → ((byte : ℕ) → test byte ≡ true → is_plain byte ≡ true) → (bytes : List ℕ) → list_all test bytes ≡ true → IsTrue (is_free 32 bytes)
 all_weaker test weaker [] all = refl
 all_weaker test weaker (b ∷ more) all =
     let parts = and_parts (test b) (list_all test more) all in
     and_from (is_plain b) (is_free 32 more) (weaker b parts.0) (all_weaker test weaker more parts.1)
 
-word_byte : (byte : ℕ) → is_word_byte byte ≡ true → is_plain byte ≡ true
+pub word_byte : (byte : ℕ) → is_word_byte byte ≡ true → is_plain byte ≡ true
 word_byte byte is = grind (arith, nat_tests)
 
 lower : (byte : ℕ) → is_lower_or_digit byte ≡ true → is_plain byte ≡ true
@@ -78,7 +78,7 @@ number_free n small =
     decimal_by_steps (λ k ds. IsTrue (is_free 32 ds)) (λ k few. and_from (is_plain (48 + k)) true (digit k) refl)
     (λ k ds many free. free_joined ds ((48 + k % 10) ∷ []) free (and_from (is_plain (48 + k % 10)) true (digit (k % 10)) refl)) n small
 
-state_free : (state : TableState) → IsTrue (is_free 32 (state_word state))
+pub state_free : (state : TableState) → IsTrue (is_free 32 (state_word state))
 state_free New = refl
 state_free Online = refl
 state_free Deleting = refl
@@ -87,7 +87,7 @@ phase_free : (phase : Phase) → IsTrue (is_free 32 (phase_word phase))
 phase_free Chop = refl
 phase_free Offline = refl
 
-mark_free : (mark : Mark) → IsMark mark → IsTrue (are_free (mark_words mark))
+pub mark_free : (mark : Mark) → IsMark mark → IsTrue (are_free (mark_words mark))
 mark_free Free form = refl
 mark_free (Merge tid phase from to) form =
     and_from _ _ (number_free tid form.0) (and_from _ _ (phase_free phase) (and_from _ _ (bound_free from) (and_from _ _ (bound_free to) refl)))

@@ -1,0 +1,12 @@
+pub mod Numerals
+pub mod PartsLemmas
+pub mod TextLemmas
+pub mod ListLemmas
+pub mod NameLemmas
+pub mod ChangeLemmas
+pub mod ValueLemmas
+pub mod ToldLemmas
+pub mod BoundLemmas
+pub mod MarkLemmas
+pub mod StagedLemmas
+pub mod FindLemmas
