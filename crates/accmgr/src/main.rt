@@ -59,4 +59,6 @@ mod data_file_tests;
 #[cfg(test)]
 mod log_tests;
 #[cfg(test)]
+mod table_node_tests;
+#[cfg(test)]
 mod tests;
