@@ -40,7 +40,7 @@ rows_of_other_table level table other end tablet apart = λ i high. by high (sam
     by high false e = refl
 
 -- the rows with the record of a change
-rows_after_record : (level : Level) (table : List ℕ) (write : RowWrite) (change : RecordChange) → write.row ≡ row_of_change change → change.new.table ≡ table → (with_level_row level write.row).records table ≡ with_row (level.records table) change.new
+pub rows_after_record : (level : Level) (table : List ℕ) (write : RowWrite) (change : RecordChange) → write.row ≡ row_of_change change → change.new.table ≡ table → (with_level_row level write.row).records table ≡ with_row (level.records table) change.new
 rows_after_record level table write change row of =
     ap (λ r. (with_level_row level r).records table) row ∙ ap (λ t. (with_level_row level (RecordRow t change.new.end (Some change.new))).records table) of ∙ rows_with_record level table change.new
 
@@ -53,7 +53,7 @@ module _ (known : Ground) (reading : Reading) (is : IsReadingOf known reading) w
   pub chain_of_metadata : (tablet : TabletRecord) → Contains reading.chain tablet → tablet.table ≡ metadata_id
   chain_of_metadata tablet there = (is.metadata.forms metadata_id tablet.end tablet (row_of (metadata_rows reading) None reading.chain tablet is.chain there)).table_is
 
-  chain_of_user : (table : List ℕ) (chain : List TabletRecord) → IsChain (reading.users.records table) chain → (tablet : TabletRecord) → Contains chain tablet → tablet.table ≡ table
+  pub chain_of_user : (table : List ℕ) (chain : List TabletRecord) → IsChain (reading.users.records table) chain → (tablet : TabletRecord) → Contains chain tablet → tablet.table ≡ table
   chain_of_user table chain is_chain tablet there = (is.users.forms table tablet.end tablet (row_of (reading.users.records table) None chain tablet is_chain there)).table_is
 
   -- ---- a row of the metadata table

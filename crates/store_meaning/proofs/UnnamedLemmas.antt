@@ -30,7 +30,7 @@ elsewhere Counts tells name told apart other counts = by (same other name) refl
     by false e = refl
 
 module _ (reading : Reading) (catalog : Catalog) (known : Ground) where
-  agree_file : (path : List ℕ) (told : Option (List Cell)) → (IsFileCounted reading catalog path → ⊥) → AgreeWhereCounted reading catalog known (with_cells known path told)
+  pub agree_file : (path : List ℕ) (told : Option (List Cell)) → (IsFileCounted reading catalog path → ⊥) → AgreeWhereCounted reading catalog known (with_cells known path told)
   agree_file path told apart = record {
     in_use = record {
       nodes = refl;

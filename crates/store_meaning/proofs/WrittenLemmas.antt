@@ -85,7 +85,7 @@ consistent_elsewhere known log mutation rows chain apart ok tablet cells there i
     ok tablet cells there (sym (elsewhere known log mutation (effective_prev rows tablet) tablet (no_table known log mutation (effective_prev rows tablet) tablet (apart tablet there))) ∙ is)
 
 -- tablets whose cells are among consistent ones are consistent
-covered_tablets : (known : Ground) (rows : Rows) (chain : List TabletRecord) (cells all : List Cell) → contents_of known rows chain ≡ Some cells → AreConsistent all → Covers cells all → HaveConsistentTablets known rows chain
+pub covered_tablets : (known : Ground) (rows : Rows) (chain : List TabletRecord) (cells all : List Cell) → contents_of known rows chain ≡ Some cells → AreConsistent all → Covers cells all → HaveConsistentTablets known rows chain
 covered_tablets known rows chain cells all told ok covers tablet own there is =
     AreConsistent-within own all (λ cell in_it. covers.within cell (all_in (tablet_content known rows) chain cells told tablet own cell there is in_it)) ok
 
@@ -107,7 +107,7 @@ told_is : (o : Option (List Cell)) (cells : List Cell) → o ≡ Some cells → 
 told_is o cells e = e ∙ ap Some (sym (ap told_cells e))
 
 -- `!0` isn't `+r`
-root_is_not_metadata : root_id ≢ metadata_id
+pub root_is_not_metadata : root_id ≢ metadata_id
 root_is_not_metadata e = (let at : ◌≡◌ {A = ℕ} 43 33 = cc e in omega (arith, at))
 
 module _ (known : Ground) (reading : Reading) (is : IsReadingOf known reading) where
