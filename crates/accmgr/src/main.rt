@@ -59,6 +59,4 @@ mod data_file_tests;
 #[cfg(test)]
 mod log_tests;
 #[cfg(test)]
-mod table_node_tests;
-#[cfg(test)]
 mod tests;

@@ -1,12 +1,10 @@
 // Worked rows.
 use crate::draws::table_id;
 use crate::values::{read_table, table_value};
-use crate::{make_table_op, set_table_op, stage_op, unstage_op};
-use node_store::NodeOp;
-use row_keys::{Path, StagedName, TableId, TableName};
+use row_keys::TableId;
 use std::alloc::Global;
 use std::test::Fail;
-use store_layout::{Mark, TableNode, TableState};
+use store_layout::Mark;
 
 // Values that spell a table.
 const GOOD: [&[u8]; 7] = [
@@ -41,14 +39,6 @@ const BAD: [&[u8]; 16] = [
 
 fn id(alloc: Global, bytes: &[u8]) -> Result<TableId, Fail> {
     Ok(TableId::new(alloc, bytes)?.ok_or("no id")?)
-}
-
-fn path(alloc: Global, bytes: &[u8]) -> Result<Path, Fail> {
-    Ok(Path::new(alloc, bytes)?.ok_or("no path")?)
-}
-
-fn name(alloc: Global, bytes: &[u8]) -> Result<TableName, Fail> {
-    Ok(TableName::new(alloc, bytes)?.ok_or("no name")?)
 }
 
 #[test]
@@ -91,30 +81,5 @@ fn ids_are_in_base_36(rt: HostRuntime) -> Result<(), Fail> {
     assert_eq!(rt; table_id(alloc, 36)?.as_bytes(), b"10".as_slice());
     let last = table_id(alloc, 9223372036854775806)?;
     assert_eq!(rt; last.as_bytes(), b"1y2p0ij32e8e6".as_slice());
-    Ok(())
-}
-
-#[test]
-fn tables_are_written(rt: HostRuntime) -> Result<(), Fail> {
-    let alloc = rt.alloc();
-    let table = TableNode {
-        id: id(alloc, b"a1")?,
-        name: name(alloc, b"t")?,
-        state: TableState::Online,
-        mark: Mark::Free,
-    };
-    let op = make_table_op(alloc, &table)?;
-    assert_eq!(rt; op.path().as_bytes(), b"/tables/a1".as_slice());
-    let set = set_table_op(alloc, &table)?;
-    match &set {
-        NodeOp::Set { value, .. } => assert_eq!(rt; value.as_bytes(), b"ONLINE t -".as_slice()),
-        _ => return Err(Fail::from("no set")),
-    }
-    let file = StagedName::new(alloc, b"f")?.ok_or("no name")?;
-    let at = path(alloc, b"stage/default_tablet/I0000002.rf")?;
-    assert_eq!(rt;
-        stage_op(alloc, &file, &at)?.path().as_bytes(),
-        b"/staged/f".as_slice()
-    );
     Ok(())
 }
