@@ -1,1 +1,4 @@
 pub mod Still
+pub mod Columns
+pub mod LevelRows
+pub mod RowReads

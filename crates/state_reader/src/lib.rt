@@ -1,15 +1,26 @@
-//! What a still ground means, computed: the cells of a tablet.
+//! What a still ground means, computed: the cells of a tablet, and the level of which cells tell.
 //!
 //! Each function's contract is the definition of `store_meaning` that it computes, so that tests can see these definitions at
 //! work. All of it is this project's own.
 #![tactic(auto)]
 
+mod columns;
+mod flag_text;
+mod level;
+mod lists;
+mod marks;
 mod name_map;
+mod paths;
+mod reading_level;
+mod records;
 mod still;
 mod tablet_cells;
 #[cfg(test)]
 mod tests;
 
+pub use columns::row_columns;
+pub use level::{BadRow, LevelFault, LevelKind, LevelRows, LoadFlag};
 pub use name_map::NameMap;
+pub use reading_level::read_level;
 pub use still::{Mutations, StillGround};
 pub use tablet_cells::content;
