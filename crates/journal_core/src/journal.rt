@@ -4,6 +4,7 @@ ghost use Rattle.host_model.specs.Picture.{OnBytes, Becomes};
 ghost use Rattle.host_model.specs.Calls.{Looks};
 ghost use Rattle.host_model.specs.Kinds.{IsLook};
 ghost use Rattle.host_model.specs.Stores.{Stores};
+ghost use Rattle.host_model.specs.declared.call.HostCall.TheVariants.{Sync};
 ghost use Rattle.journal_core.specs.Changes.{MayGain, Gains, MayMake};
 ghost use Rattle.journal_core.specs.Journal.{Holds, IsOpen, IsFull, IsDamaged, Appends, FileCause, OpenCause, AppendCause};
 
@@ -111,6 +112,7 @@ impl Journal {
         ensures appends { (records : List (List ℕ)) → Holds self.old.name self.old.end records (H.state host.old).files → Appends self.old.name self.old.end records payload.now result (H.state host.old) (H.state host.new) }
         ensures opened { IsTrue (H.state host.new).is_faithful → OnOk result (IsOpen self.new.name self.new.end (H.state host.new).files) }
         ensures ok { OnOk result (self.new ≡ record self.old { end = self.old.end + 5 + length payload.now }) }
+        ensures last { OnOk result ((H.state host.new).last ≡ Some Sync) }
         ensures err { OnErr result (self.new ≡ self.old) }
         ensures full { IsErrOf result Stop.Full ↔ IsFull self.old.end payload.now }
         ensures untouched { IsFull self.old.end payload.now → host.new ≡ host.old }

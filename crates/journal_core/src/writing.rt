@@ -1,8 +1,9 @@
 // The two durable writes of an append.
-ghost use Rattle.std.specs.Prelude.{[], ◌∷◌, ◌++◌, ◌+◌, ◌<◌, ◌^◌, length, IsTrue};
+ghost use Rattle.std.specs.Prelude.{◌≡◌, [], ◌∷◌, ◌++◌, ◌+◌, ◌<◌, ◌^◌, length, IsTrue, Some, OnOk};
 ghost use Rattle.host_model.specs.Calls.{Reaches, HasCause, Torn, Puts};
 ghost use Rattle.host_model.specs.Picture.{OnBytes};
 ghost use Rattle.host_model.specs.Stores.{Stores};
+ghost use Rattle.host_model.specs.declared.call.HostCall.TheVariants.{Sync};
 ghost use Rattle.journal_core.specs.Records.{body};
 ghost use Rattle.journal_core.specs.Parts.{KeepsFront};
 
@@ -40,6 +41,7 @@ pub fn write_synced<H: Host>(
 ) -> Result<(), HostFault>
     requires { IsTrue (H.state host.old).is_faithful → Reaches (H.state host.old).files name.now at }
     ensures stores { Stores name.now (OnBytes (Torn at (length bytes.now))) (OnBytes (Puts at bytes.now)) result (H.state host.old) (H.state host.new) }
+    ensures last { OnOk result ((H.state host.new).last ≡ Some Sync) }
     ensures cause { HasCause result (H.state host.old) (H.state host.new) }
 {
     host.write(name, at, bytes)?;

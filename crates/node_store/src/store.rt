@@ -1,10 +1,11 @@
 // The node store.
-ghost use Rattle.std.specs.Prelude.{◌≡◌, ◌⊎◌, ◌+◌, List, ℕ, length, Ok, Err, IfOk, IfErr, IsErrOf, OnOk, IsTrue, MatchBool, MatchOption};
+ghost use Rattle.std.specs.Prelude.{◌≡◌, ◌⊎◌, ◌+◌, List, ℕ, length, Some, Ok, Err, IfOk, IfErr, IsErrOf, OnOk, IsTrue, MatchBool, MatchOption};
 ghost use Rattle.std.specs.FinMap as map;
 ghost use Rattle.std.specs.Option.{option_copied};
 ghost use Rattle.host_model.specs.Kinds.{IsLook};
 ghost use Rattle.host_model.specs.Calls.{HasCause, Looks};
 ghost use Rattle.host_model.specs.Alters.{Alters};
+ghost use Rattle.host_model.specs.declared.call.HostCall.TheVariants.{Sync};
 ghost use Rattle.host_model.specs.declared.fault.Stop.TheVariants.{NoMemory};
 ghost use Rattle.journal_core.specs.Journal.{FileCause};
 ghost use Rattle.node_store.specs.declared.changes.NodeStop.{NodeStop};
@@ -115,6 +116,7 @@ impl NodeStore {
         ensures name { self.new.name ≡ self.old.name }
         ensures end { OnOk result (self.new.end ≡ self.old.end + 5 + length (spelled_multi ops.now)) }
         ensures stored { IsTrue (H.state host.new).is_faithful → OnOk result (IsStored self.new (H.state host.new).files) }
+        ensures last { OnOk result ((H.state host.new).last ≡ Some Sync) }
         ensures cause { IfErr result (λ stop. MultiCause ops.now self.old stop (H.state host.old) (H.state host.new)) }
         ensures due { (stop : NodeStop) → IsDue ops.now self.old stop → AnswersOrNoMemory (Err stop) result }
         ensures refused { IfErr result (λ stop. IsRefusal stop → self.new ≡ self.old) }

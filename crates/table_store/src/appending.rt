@@ -1,6 +1,7 @@
 // Changes of the nodes.
-ghost use Rattle.std.specs.Prelude.{◌≡◌, ◌+◌, length, Ok, IfErr, OnOk, IsTrue};
+ghost use Rattle.std.specs.Prelude.{◌≡◌, ◌+◌, length, Some, Ok, IfErr, OnOk, IsTrue};
 ghost use Rattle.host_model.specs.Alters.{Alters};
+ghost use Rattle.host_model.specs.declared.call.HostCall.TheVariants.{Sync};
 ghost use Rattle.node_store.specs.Nodes.{multi_applied};
 ghost use Rattle.node_store.specs.Multi.{spelled_multi};
 ghost use Rattle.node_store.specs.Image.{IsNodeFile, IsStored};
@@ -21,6 +22,7 @@ pub fn append<H: Host>(nodes: &mut NodeStore, host: &mut H, ops: &[NodeOp]) -> R
     ensures name { nodes.new.name ≡ nodes.old.name }
     ensures end { OnOk result (nodes.new.end ≡ nodes.old.end + 5 + length (spelled_multi ops.now)) }
     ensures stored { IsTrue (H.state host.new).is_faithful → OnOk result (IsStored nodes.new (H.state host.new).files) }
+    ensures last { OnOk result ((H.state host.new).last ≡ Some Sync) }
     ensures stops { IfErr result (λ stop. AppendStops ops.now nodes.old stop (H.state host.old) (H.state host.new)) }
     ensures due { IsFull ops.now nodes.old → IsFullOrNoMemory result }
     ensures untouched { IfErr result (λ stop. IsUnasked stop → host.new ≡ host.old) }

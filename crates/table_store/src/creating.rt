@@ -2,6 +2,7 @@
 ghost use Rattle.std.specs.Prelude.{◌≡◌, ◌+◌, ◌<◌, ◌^◌, ◌++◌, ◌∷◌, [], true, false, length, Some, None, Ok, Err, IfOk, IfErr, OnOk, OnErr, IsTrue};
 ghost use Rattle.std.specs.FinMap as map;
 ghost use Rattle.host_model.specs.Alters.{Alters};
+ghost use Rattle.host_model.specs.declared.call.HostCall.TheVariants.{Sync};
 ghost use Rattle.row_keys.specs.Forms.{IsWordName};
 ghost use Rattle.node_store.specs.Nodes.{multi_applied};
 ghost use Rattle.node_store.specs.Multi.{spelled_multi};
@@ -98,6 +99,7 @@ fn commit<H: Host>(
     ensures name { nodes.new.name ≡ nodes.old.name }
     ensures end { OnOk result (nodes.new.end ≡ nodes.old.end + 5 + length (spelled_multi ops.now)) }
     ensures stored { IsTrue (H.state host.new).is_faithful → OnOk result (IsStored nodes.new (H.state host.new).files) }
+    ensures last { OnOk result ((H.state host.new).last ≡ Some Sync) }
     ensures stops { IfErr result (λ stop. CommitStops stop ops.now nodes.old entry entries.old.items entries.new.items (H.state host.old) (H.state host.new)) }
     ensures due { IsFull ops.now nodes.old → IsFullOrNoMemory result }
     ensures untouched { IfErr result (λ stop. IsUnasked stop → host.new ≡ host.old) }
@@ -135,6 +137,7 @@ impl TableStore {
         ensures created { is_taken name self.old.tables ≡ false → OnOk result (HasCreated line name self.old self.new) }
         ensures stored { IsTrue (H.state host.new).is_faithful → OnOk result (IsStored self.new.nodes (H.state host.new).files) }
         ensures says { IsTrue (H.state host.new).is_faithful → OnOk result (SaysTables (H.state host.new).files self.new.tables) }
+        ensures last { is_taken name self.old.tables ≡ false → OnOk result ((H.state host.new).last ≡ Some Sync) }
         ensures alters { is_taken name self.old.tables ≡ false → Alters (IsNodeFile nodes_name) (MayCreate name self.old.tables) (Creates name self.old.tables) result (H.state host.old) (H.state host.new) }
         ensures stopped { IfErr result (λ stop. self.new.stop ≡ Some stop) }
         ensures history { IfErr result (λ stop. self.new.history ≡ self.old.history) }
