@@ -5,6 +5,7 @@ use Rattle.host_model.specs.State.{HostState}
 use Rattle.host_model.specs.Calls.{IsSound, IsOfFiles}
 use Rattle.host_model.specs.Leaves.{LeavesOnly, Shows, AllSettled}
 use Rattle.host_model.specs.Alters.{Alters}
+use Rattle.host_model.specs.declared.call.HostCall.TheVariants.{Sync}
 use Rattle.host_model.specs.declared.fault.HostFault.{HostFault}
 use Rattle.host_model.specs.declared.fault.HostFault.TheVariants.{Disk, Source, Sink, Memory}
 use Rattle.host_model.specs.declared.fault.Stop.{Stop}
@@ -54,9 +55,9 @@ module _ (number : ℕ) (name : List ℕ) (old new : StoreValue) (before now : H
 
   -- the table is made
   pub made_line : {made : Bool} → Alters (IsNodeFile nodes_name) (MayCreate name old.tables) (Creates name old.tables) {T = Bool} {E = Stop} (Ok made) before now → HasCreated number name old new
-      → (IsTrue now.is_faithful → IsStored new.nodes now.files) → (IsTrue now.is_faithful → SaysTables now.files new.tables)
+      → (IsTrue now.is_faithful → IsStored new.nodes now.files) → (IsTrue now.is_faithful → SaysTables now.files new.tables) → now.last ≡ Some Sync
       → DoesLine number (CreateTable name) (Ok (Some Done)) old new before now
-  made_line alters has stored says = record {
+  made_line alters has stored says synced = record {
     quiet = alters.quiet;
     answer = sym answer_is;
     running = has.running;
@@ -68,6 +69,7 @@ module _ (number : ℕ) (name : List ℕ) (old new : StoreValue) (before now : H
     stops = tt;
     unasked = tt;
     blank = λ none. absurd (is_answered Done none);
+    call = inr synced;
     readable = stays_altered sound alters (λ d p step. step.readable);
     leaves = shows alters;
     rests = λ h rests. alters.rests h rests;
@@ -94,6 +96,7 @@ module _ (number : ℕ) (name : List ℕ) (old new : StoreValue) (before now : H
     stops = stops_so stop why;
     unasked = λ own. unchanged (untouched own);
     blank = tt;
+    call = tt;
     readable = stays_altered sound alters (λ d p step. step.readable);
     leaves = shows alters;
     rests = λ h rests. tt;

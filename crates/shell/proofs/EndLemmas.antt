@@ -167,9 +167,9 @@ module _ {first : HostState} {start : Station} {n : ℕ} {pending : List ℕ} {s
         said = doubt.said ∙ mid_said f;
       }
 
-      behind : (f : IsTrue first.is_faithful) → IsUnreported stop number (line_of text) store store' mid later → StopsBehind stop first start number store'.history store'.doubt later
+      behind : (f : IsTrue first.is_faithful) → IsOfScript mid.last → IsUnreported stop number (line_of text) store store' mid later → StopsBehind stop first start number store'.history store'.doubt later
       unfolding last_line
-      behind f unsaid = record {
+      behind f call unsaid = record {
         why = unsaid.why;
         last = last_line f;
         done = record {
@@ -183,12 +183,13 @@ module _ {first : HostState} {start : Station} {n : ℕ} {pending : List ℕ} {s
         count = unsaid.count;
         said = unsaid.said ∙ ap (λ l. l ++ take unsaid.count (reply_to number (line_of text) store.tables)) (mid_said f)
             ∙ ap (λ (t : Tables). first.said ++ replies_at n texts tables ++ take unsaid.count (reply_to number (line_of text) t)) (tables_are sound sound_now served f);
+        call = unsaid.call call;
       }
 
       halted : (f : IsTrue first.is_faithful) → IsOfScript mid.last → LineHalts stop number (line_of text) store store' mid later → HasStopped stop first start number store'.history store'.doubt later
       halted f call (inl none) = inr (inr (inl (nothing f call none)))
       halted f call (inr (inl doubt)) = inr (inr (inr (inl (inside f doubt))))
-      halted f call (inr (inr unsaid)) = inr (inr (inr (inr (behind f unsaid))))
+      halted f call (inr (inr unsaid)) = inr (inr (inr (inr (behind f call unsaid))))
 
       pub stopped_line : (f : IsTrue first.is_faithful) → IsOfScript mid.last → HasStopped stop first start number store'.history store'.doubt later
       stopped_line f call = halted f call (serves.halts (mid_faithful f))
@@ -237,14 +238,14 @@ module _ {first : HostState} {start : Station} {n : ℕ} {pending : List ℕ} {s
         said = said ∙ ap (λ l. l ++ front) (mid_said f);
       }
 
-      pub refusal_ended : (f : IsTrue first.is_faithful) → HasEnded result first start number store.history store.doubt later
-      refusal_ended f = at result refuses.done refuses.why (refuses.said (mid_faithful f))
+      pub refusal_ended : IsOfScript mid.last → (f : IsTrue first.is_faithful) → HasEnded result first start number store.history store.doubt later
+      refusal_ended call f = at result refuses.done refuses.why (refuses.said (mid_faithful f))
         where
           at : (r : Result Ending Stop) → IfOk r (λ e. e ≡ NoLine) → IfErr r IsReplyStop → OnOk r (later.said ≡ mid.said ++ numbered number (codes "no line")) → HasEnded r first start number store.history store.doubt later
           at (Ok e) is why said = subst (λ x. HasEnded (Ok x) first start number store.history store.doubt later) (sym is) (refused f (numbered number (codes "no line")) said)
           at (Err stop) is why said =
               let tried = refuses.tried (mid_faithful f) in
-              inr (inl (record { why = why; count = tried.0; refused = refused f (take tried.0 (numbered number (codes "no line"))) tried.1 }))
+              inr (inl (record { why = why; count = tried.0; refused = refused f (take tried.0 (numbered number (codes "no line"))) tried.1; call = refuses.call call }))
 
       pub refusal_counts : (stop : Stop) → StopCounts stop mid later → StopCounts stop first later
       refusal_counts stop why = counted stop later why

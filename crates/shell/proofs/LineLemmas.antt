@@ -55,6 +55,7 @@ module _ (number : ℕ) (line : Line) (store : StoreValue) (state : HostState) (
     stops = tt;
     unasked = tt;
     blank = λ none. unchanged refl;
+    call = inl (unchanged refl);
     readable = stays_refl sound;
     leaves = shows_now;
     rests = λ h rests. rests;
@@ -74,6 +75,7 @@ module _ (number : ℕ) (line : Line) (store : StoreValue) (state : HostState) (
     stops = tt;
     unasked = λ u. unchanged refl;
     blank = tt;
+    call = tt;
     readable = stays_refl sound;
     leaves = shows_now;
     rests = λ h rests. tt;

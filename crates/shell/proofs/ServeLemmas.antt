@@ -6,6 +6,7 @@ use Rattle.host_model.specs.State.{HostState}
 use Rattle.host_model.specs.Calls.{IsSound, Says, IsOfSink}
 use Rattle.host_model.specs.Kinds.{IsOfScript}
 use Rattle.host_model.specs.Leaves.{LeavesOnly, Shows, Told, AllSettled}
+use Rattle.host_model.specs.declared.call.HostCall.TheVariants.{Sync}
 use Rattle.host_model.specs.declared.fault.HostFault.{HostFault}
 use Rattle.host_model.specs.declared.fault.HostFault.TheVariants.{Disk, Source, Sink, Memory}
 use Rattle.host_model.specs.declared.fault.Stop.{Stop}
@@ -19,7 +20,7 @@ use Rattle.script_words.specs.Replies.{reply_of}
 use Rattle.table_store.specs.Kept.{SaysTables}
 use Rattle.table_store.specs.StoreValue.{StoreValue, IsUnasked}
 use Rattle.shell.specs.Serving.{spelled, tables_after, reply_to}
-use Rattle.shell.specs.LineServed.{IsLinePicture, IsReplyStop, DoesLine, ServesLine}
+use Rattle.shell.specs.LineServed.{IsLinePicture, IsReplyStop, IsUnchanged, IsLastOfWork, DoesLine, ServesLine}
 use Rattle.shell.proofs.LastCallLemmas.{not_full}
 use Rattle.shell.proofs.WalkLemmas.{steps-tables}
 use Rattle.shell.proofs.ReadableLemmas.{stays_said, stays_then}
@@ -80,6 +81,10 @@ module _ (number : ℕ) (line : Line) (old new : StoreValue) (before mid : HostS
     after_says : IsTrue before.is_faithful → SaysTables mid.files (tables_after line old.tables)
     after_says f = subst (λ t. SaysTables mid.files t) (steps-tables line _ _ does.steps) (does.sure.says (still_faithful does.quiet.keeps f))
 
+    worked : IsUnchanged before mid ⊎ (mid.last ≡ Some Sync) → IsOfScript before.last → IsLastOfWork mid.last
+    worked (inl same) at = inl (subst IsOfScript (sym same.last) at)
+    worked (inr synced) at = inr synced
+
     -- there was no memory for the reply
     pub unspelled : (T : Type 0) → ServesLine number line {T = T} (Err NoMemory) old new before mid
     unspelled T = record {
@@ -91,7 +96,7 @@ module _ (number : ℕ) (line : Line) (old new : StoreValue) (before mid : HostS
       steps = tt;
       history = tt;
       said = λ f. tt;
-      halts = λ f. inr (inr (record { why = tt; steps = does.steps; history = does.history; doubt = does.doubt; count = 0; said = does.quiet.said f ∙ sym (append-nil before.said); says = after_says f }));
+      halts = λ f. inr (inr (record { why = tt; steps = does.steps; history = does.history; doubt = does.doubt; count = 0; said = does.quiet.said f ∙ sym (append-nil before.said); says = after_says f; call = worked does.call }));
       stops = tt;
       full = λ is. absurd (not_full is);
       call = λ at. tt;
@@ -164,6 +169,7 @@ module _ (number : ℕ) (line : Line) (old new : StoreValue) (before mid : HostS
               count = tried.count;
               said = tried.said ∙ ap (λ l. l ++ take tried.count reply) (does.quiet.said f) ∙ ap (λ l. before.said ++ take tried.count l) reply_is;
               says = subst (λ i. SaysTables i (tables_after line old.tables)) (sym (says.same at).0) (after_says f);
+              call = λ before_said. inl (subst IsOfScript (sym says.last) tt);
             }));
         stops = faulted-then does.quiet.keeps says.counted.1;
         full = λ is. absurd (no_fault_full fault is);

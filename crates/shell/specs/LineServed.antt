@@ -1,10 +1,12 @@
 -- What the serving of one line does.
-use Rattle.std.specs.Prelude.{◌≡◌, ◌⊎◌, ℕ, List, [], ◌++◌, take, None, Result, IsTrue, IfErr, IfOk, OnOk, Option}
+use Rattle.std.specs.Prelude.{◌≡◌, ◌⊎◌, ℕ, List, [], ◌++◌, take, Some, None, Result, IsTrue, IfErr, IfOk, OnOk, Option}
 use Rattle.host_model.specs.Picture.{Picture}
 use Rattle.host_model.specs.State.{HostState}
 use Rattle.host_model.specs.Calls.{Keeps, IsQuiet, Faulted}
 use Rattle.host_model.specs.Kinds.{IsOfScript}
 use Rattle.host_model.specs.Leaves.{LeavesOnly, Shows, AllSettled}
+use Rattle.host_model.specs.declared.call.HostCall.{HostCall}
+use Rattle.host_model.specs.declared.call.HostCall.TheVariants.{Sync}
 use Rattle.host_model.specs.declared.fault.HostFault.TheVariants.{Disk, Source, Sink, Memory}
 use Rattle.host_model.specs.declared.fault.Stop.{Stop}
 use Rattle.host_model.specs.declared.fault.Stop.TheVariants.{Host, Damaged, Full, NoMemory}
@@ -83,6 +85,10 @@ pub record IsUnchanged (before now : HostState) : Type 0 where
   pub last : now.last ≡ before.last
   pub moment : now.moment ≡ before.moment
 
+-- the last call heard or said, or made the changes of a line lasting
+abbrev pub IsLastOfWork : Option HostCall → Type 0
+IsLastOfWork call = IsOfScript call ⊎ (call ≡ Some Sync)
+
 -- ---- where it stops
 
 -- the line did nothing, and asked nothing of the host
@@ -112,6 +118,7 @@ pub record IsUnreported (stop : Stop) (number : ℕ) (line : Line) (old new : St
   pub count : ℕ
   pub said : now.said ≡ before.said ++ take count (reply_to number line old.tables)
   pub says : SaysTables now.files (tables_after line old.tables)
+  pub call : IsOfScript before.last → IsLastOfWork now.last
 
 abbrev pub LineHalts : Stop → ℕ → Line → StoreValue → StoreValue → HostState → HostState → Type 0
 LineHalts stop number line old new before now = DidNothing stop line old new before now ⊎ IsInDoubt stop number line old new before now ⊎ IsUnreported stop number line old new before now
@@ -133,6 +140,8 @@ pub record DoesLine (number : ℕ) (line : Line) (result : Result (Option Answer
   pub unasked : IfErr result (λ stop. IsUnasked stop → IsUnchanged before now)
   -- a line that has no answer asks nothing either
   pub blank : IfOk result (λ answer. answer ≡ None → IsUnchanged before now)
+  -- and one that is answered asked nothing, or made its changes lasting by its last call
+  pub call : OnOk result (IsUnchanged before now ⊎ (now.last ≡ Some Sync))
   pub readable : StaysReadable before now
   pub leaves : IsTrue before.is_honest → AllSettled before → LeavesOnly (Shows (λ image. SaysTables image old.tables ⊎ SaysTables image (tables_after line old.tables)) before.said) before now
   pub rests : IsTrue before.is_honest → AllSettled before → OnOk result (AllSettled now)

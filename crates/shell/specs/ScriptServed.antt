@@ -15,7 +15,7 @@ use Rattle.plain_model.specs.declared.operation.Entry.{Entry}
 use Rattle.shell.specs.Serving.{tables_over, replies_over, entries_over, entries_of, reply_to}
 use Rattle.shell.specs.Script.{texts_of, AreWithin, IsOver}
 use Rattle.shell.specs.Walk.{Walks}
-use Rattle.shell.specs.LineServed.{IsEarlyStop, IsCommitStop, IsReplyStop}
+use Rattle.shell.specs.LineServed.{IsLastOfWork, IsEarlyStop, IsCommitStop, IsReplyStop}
 use Rattle.shell.specs.declared.ending.Ending.{Ending}
 use Rattle.shell.specs.declared.ending.Ending.TheVariants.{ScriptEnd, NoLine}
 
@@ -101,6 +101,7 @@ pub record StopsRefusing (stop : Stop) (first : HostState) (start : Station) (li
   pub why : IsReplyStop stop
   pub count : ℕ
   pub refused : HasRefused first start lines past maybe (take count (numbered lines (codes "no line"))) now
+  pub call : IsOfScript now.last
 
 -- the last line did nothing
 pub record StopsBefore (stop : Stop) (first : HostState) (start : Station) (lines : ℕ) (past maybe : List Entry) (now : HostState) : Type 0 where
@@ -129,6 +130,8 @@ pub record StopsBehind (stop : Stop) (first : HostState) (start : Station) (line
   pub doubt : maybe ≡ []
   pub count : ℕ
   pub said : HasSaid first start.tables last.before (take count (reply_to lines (line_of last.text) (tables_at last.before (texts_of first.script) start.tables))) now
+  -- nothing was asked behind the work of the line and its reply
+  pub call : IsLastOfWork now.last
 
 abbrev pub HasStopped : Stop → HostState → Station → ℕ → List Entry → List Entry → HostState → Type 0
 HasStopped stop first start lines past maybe now =

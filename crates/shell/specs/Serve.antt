@@ -52,6 +52,7 @@ pub record RefusesLine (number : ℕ) (result : Result Ending Stop) (before now 
   pub said : IsTrue before.is_faithful → OnOk result (now.said ≡ before.said ++ numbered number (codes "no line"))
   pub tried : IsTrue before.is_faithful → (count : ℕ) × (now.said ≡ before.said ++ take count (numbered number (codes "no line")))
   pub why : IfErr result IsReplyStop
+  pub call : IsOfScript before.last → IsOfScript now.last
   pub stops : IfErr result (λ stop. StopCounts stop before now)
   pub leaves : IsTrue before.is_honest → AllSettled before → LeavesOnly (λ p. p.image ≡ before.files) before now
   pub rests : IsTrue before.is_honest → AllSettled before → AllSettled now

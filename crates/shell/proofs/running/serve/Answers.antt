@@ -41,6 +41,7 @@ returns-in-TooLong-clause-ended g c =
     let served = c.loop-number.invariant.served in
     let listens = c.in_ok-next_line.ensures.listens in
     refusal_ended sound now served listens (g.met.H.Host.sound c.next_line.new.host) _ c.loop-number.invariant.next (over_long sound now served listens (rw c.in-TooLong.is at c.in_ok-next_line.ensures.takes)) c.refuse_line.ensures
+    (heard_call g.H.Host.state _ _ _ served.call (c.in_ok-next_line.ensures.last c.loop-number.invariant.hearing))
 
 pub returns-in-TooLong-clause-crash : goal.returns-in-TooLong-clause-crash
 returns-in-TooLong-clause-crash g c =
@@ -105,7 +106,8 @@ returns g c =
     let refuses = c.refuse_line-in_default.ensures in
     record {
       keeps = keeps-then served.keeps (keeps-then listens.keeps refuses.keeps);
-      ended = refusal_ended sound now served listens mid 100001 number_is over refuses;
+      ended = refusal_ended sound now served listens mid 100001 number_is over refuses
+          (heard_call g.H.Host.state _ _ _ served.call (c.in_ok-next_line-2.ensures.last c.loop-number.invariant.hearing));
       full = refuses_in_room c.refuse_line-in_default.result _ refuses.why;
       stops = IfErr-weaker c.refuse_line-in_default.result _ _ (refusal_counts sound now served listens mid 100001 number_is over refuses) refuses.stops;
       crash = refusal_fronts sound now served listens mid 100001 number_is over refuses;

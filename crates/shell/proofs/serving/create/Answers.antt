@@ -19,7 +19,7 @@ pub returns-then-branch : goal.returns-then-branch
 returns-then-branch g c =
     elim (cases_Bool (is_taken c.args.name c.args.store.now.tables)) [
       | inl taken ↦ let e = sym c.in_ok-create_table.was ∙ c.create_table.ensures.taken c.requires.running taken in cc e
-      | inr free ↦ made_line _ _ _ _ _ _ (g.met.H.Host.sound c.args.host.now) c.requires.sure free (c.in_ok-create_table.ensures.alters free) (c.in_ok-create_table.ensures.created free) c.in_ok-create_table.ensures.stored c.in_ok-create_table.ensures.says
+      | inr free ↦ made_line _ _ _ _ _ _ (g.met.H.Host.sound c.args.host.now) c.requires.sure free (c.in_ok-create_table.ensures.alters free) (c.in_ok-create_table.ensures.created free) c.in_ok-create_table.ensures.stored c.in_ok-create_table.ensures.says (c.in_ok-create_table.ensures.last free)
     ]
 
 pub returns-in_err-shown : goal.returns-in_err-shown
