@@ -16,6 +16,7 @@ mod opening;
 mod removing;
 mod speaking;
 mod stop;
+mod stopping;
 
 pub use ground::Ground;
 pub use making::init_nodes;

@@ -1,0 +1,35 @@
+// Stops between two actions.
+ghost use Rattle.std.specs.Prelude.{◌≡◌, ℕ, None, Some, Ok, OnOk, IfErr};
+ghost use Rattle.host_model.specs.declared.fault.Stop as stops;
+ghost use Rattle.ground_store.specs.Acts.{IsAgain, StaysStopped, stop_of};
+ghost use Rattle.ground_store.specs.Drawing.{IsOwn};
+
+use crate::again::{again, keep};
+use crate::ground::Ground;
+use host_model::{Host, Stop};
+
+impl<H: Host> Ground<H> {
+    /// Answers the stop again where the ground has stopped, or `NoMemory` where the copy of a damaged file's name finds none,
+    /// and else `Ok`. Asks nothing of the host.
+    pub fn check(&self) -> Result<(), Stop>
+        ensures runs { OnOk result (self.now.stopped ≡ None) }
+        ensures stays { (own : stops.Stop) → self.now.stopped ≡ Some own → StaysStopped own (stop_of result) self.now self.now }
+        ensures goes { self.now.stopped ≡ None → result ≡ Ok tt }
+    {
+        match &self.stopped {
+            Some(stop) => Err(again(self.alloc, stop)),
+            None => Ok(()),
+        }
+    }
+
+    /// Stops for a reason of the caller's own, as want of memory between two actions, and answers it, or `NoMemory` where the
+    /// copy of a damaged file's name finds none. From then on each call answers it, and asks nothing of the host.
+    pub fn stop(&mut self, stop: Stop) -> Stop
+        requires running { self.old.stopped ≡ None }
+        requires own { IsOwn stop }
+        ensures kept { self.new ≡ record self.old { stopped = Some stop } }
+        ensures again { IsAgain stop result }
+    {
+        keep(self.alloc, &mut self.stopped, stop)
+    }
+}
