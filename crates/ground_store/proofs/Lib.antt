@@ -7,3 +7,4 @@ mod OpeningLemmas
 mod DiskLemmas
 mod MakingLemmas
 mod DrawLemmas
+pub mod EventLemmas

@@ -1,8 +1,8 @@
 // Stops between two actions.
-ghost use Rattle.std.specs.Prelude.{◌≡◌, ℕ, None, Some, Ok, OnOk, IfErr};
-ghost use Rattle.host_model.specs.declared.fault.Stop as stops;
-ghost use Rattle.ground_store.specs.Acts.{IsAgain, StaysStopped, stop_of};
+ghost use Rattle.std.specs.Prelude.{◌≡◌, None, Some, OnOk};
+ghost use Rattle.ground_store.specs.Acts.{Acts, IsAgain, stop_of};
 ghost use Rattle.ground_store.specs.Drawing.{IsOwn};
+ghost use Rattle.ground_store.specs.Steps.{Stays};
 
 use crate::again::{again, keep};
 use crate::ground::Ground;
@@ -12,9 +12,8 @@ impl<H: Host> Ground<H> {
     /// Answers the stop again where the ground has stopped, or `NoMemory` where the copy of a damaged file's name finds none,
     /// and else `Ok`. Asks nothing of the host.
     pub fn check(&self) -> Result<(), Stop>
+        ensures acts { Acts H.state Stays Stays (stop_of result) self.now self.now }
         ensures runs { OnOk result (self.now.stopped ≡ None) }
-        ensures stays { (own : stops.Stop) → self.now.stopped ≡ Some own → StaysStopped own (stop_of result) self.now self.now }
-        ensures goes { self.now.stopped ≡ None → result ≡ Ok tt }
     {
         match &self.stopped {
             Some(stop) => Err(again(self.alloc, stop)),
@@ -27,6 +26,7 @@ impl<H: Host> Ground<H> {
     pub fn stop(&mut self, stop: Stop) -> Stop
         requires running { self.old.stopped ≡ None }
         requires own { IsOwn stop }
+        ensures acts { Acts H.state Stays Stays (Some result) self.old self.new }
         ensures kept { self.new ≡ record self.old { stopped = Some stop } }
         ensures again { IsAgain stop result }
     {
