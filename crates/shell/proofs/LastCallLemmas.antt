@@ -1,5 +1,5 @@
 -- The last call of the host.
-use Rattle.std.proofs.Common.{◌≡◌, ◌⊎◌, inl, inr, ℕ, ◌<◌, List, [], length, Result, Ok, Err, IfErr, sym, ap, subst, arith}
+use Rattle.std.proofs.Common.{◌≡◌, ◌⊎◌, inl, inr, ℕ, List, [], length, Result, Ok, Err, IfErr, sym, ap, subst, arith}
 use Rattle.host_model.specs.State.{HostState}
 use Rattle.host_model.specs.Kinds.{IsOfScript}
 use Rattle.host_model.specs.declared.fault.Stop.{Stop}

@@ -72,7 +72,7 @@ module _ (first mid now : HostState) (start : Station) (said : first.said ≡ mi
   stopped_since : {lines : ℕ} {past maybe : List Entry} (stop : Stop) → HasStopped stop mid start lines past maybe now → HasStopped stop first start lines past maybe now
   unfolding done_since last_since
   stopped_since stop (inl is) = inl (record { why = is.why; done = done_since is.done; doubt = is.doubt; said = rw (script, said) is.said; call = rw script is.call })
-  stopped_since stop (inr (inl is)) = inr (inl (record { why = is.why; count = is.count; refused = refused_since is.refused }))
+  stopped_since stop (inr (inl is)) = inr (inl (record { why = is.why; count = is.count; refused = refused_since is.refused; call = is.call }))
   stopped_since stop (inr (inr (inl is))) = inr (inr (inl (record {
     last = last_since is.last;
     done = done_since is.done;
@@ -96,6 +96,7 @@ module _ (first mid now : HostState) (start : Station) (said : first.said ≡ mi
     doubt = is.doubt;
     count = is.count;
     said = rw (script, said) is.said;
+    call = is.call;
   }))))
 
   pub ended_since : (ending : Result Ending Stop) (lines : ℕ) (past maybe : List Entry) → HasEnded ending mid start lines past maybe now → HasEnded ending first start lines past maybe now
