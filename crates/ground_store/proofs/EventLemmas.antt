@@ -43,8 +43,8 @@ module _ {H : Type 0} (state : H → HostState) where
     tried = λ f. second f (one.done f) (state z.host).files (two.tried (still_faithful one.quiet.keeps f));
     done = λ f. unless_more stop (both f (one.done f)) (two.done (still_faithful one.quiet.keeps f));
     leaves = λ h. let f = sound.faithful h in leaves_then
-      (leaves_weaker (one.leaves h) (λ p shows. record { image = first f p.image shows.image; said_is = shows.said_is }))
-      (leaves_weaker (two.leaves (still_honest one.quiet.keeps h)) (λ p shows. record { image = second f (one.done f) p.image shows.image; said_is = shows.said_is ∙ one.quiet.said f }));
+        (leaves_weaker (one.leaves h) (λ p shows. record { image = first f p.image shows.image; said_is = shows.said_is }))
+        (leaves_weaker (two.leaves (still_honest one.quiet.keeps h)) (λ p shows. record { image = second f (one.done f) p.image shows.image; said_is = shows.said_is ∙ one.quiet.said f }));
     rests = λ h. two.rests (still_honest one.quiet.keeps h);
     goes_on = goes_on_then stop z.stopped (state x.host) (state y.host) (state z.host) one.quiet.keeps two.goes_on;
   }
