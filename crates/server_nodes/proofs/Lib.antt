@@ -1,0 +1,5 @@
+pub mod DigitLemmas
+mod PutLemmas
+pub mod StartLemmas
+mod StartActs
+mod ClearLemmas

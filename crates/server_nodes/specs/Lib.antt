@@ -1,0 +1,4 @@
+pub mod Sessions
+pub mod Starting
+pub mod Started
+pub mod Ending
