@@ -1,5 +1,5 @@
 -- Nodes that are put: made, or set where they are there.
-use Rattle.std.proofs.Common.{◌≡◌, ◌≢◌, ◌⊎◌, inl, inr, ℕ, ◌+◌, ◌^◌, Bool, true, false, cond, List, [], ◌∷◌, Option, Some, None, Result, Ok, Err, refl, sym, ◌∙◌, ap}
+use Rattle.std.proofs.Common.{◌≡◌, ◌≢◌, ◌⊎◌, inl, inr, ℕ, ◌+◌, ◌^◌, Bool, true, false, cond, List, Option, Some, None, Result, Ok, Err, refl, ◌∙◌, ap}
 use Rattle.std.specs.Prelude.{nat_lt}
 use Rattle.std.specs.FinMap as map
 use Rattle.std.specs.FinMap.{get-insert, slice_cmp-IsAntisymmetric, nat_cmp-IsAntisymmetric}
@@ -13,9 +13,9 @@ use Rattle.node_store.specs.declared.changes.Node.{Node}
 use Rattle.node_store.specs.declared.changes.NodeOp.TheVariants.{Create, Set}
 use Rattle.node_store.specs.declared.changes.NodeStop.{NodeStop}
 use Rattle.node_store.specs.declared.changes.NodeStop.TheVariants.{Stop}
-use Rattle.node_store.specs.Nodes.{Nodes, turned, raised, and_then, applied}
+use Rattle.node_store.specs.Nodes.{Nodes, turned, and_then, applied}
 use Rattle.node_store.specs.PathsTo.{path_cmp, with_entry}
-use Rattle.server_nodes.specs.Starting.{put_over, put_op}
+use Rattle.server_nodes.specs.Starting.{put_op}
 use Rattle.server_nodes.specs.Started.{HasValue}
 
 -- the changes are made and leave such nodes, or a version has reached its end

@@ -1,14 +1,13 @@
 -- A start, as one action behind another.
-use Rattle.std.proofs.Common.{◌≡◌, ◌⊎◌, inl, inr, ℕ, List, [], ◌∷◌, Some, None, subst}
+use Rattle.std.proofs.Common.{◌≡◌, inl, inr, ℕ, List, [], ◌∷◌, Some, None, subst}
 use Rattle.host_model.specs.Picture.{Image}
 use Rattle.host_model.specs.State.{HostState}
 use Rattle.host_model.specs.Calls.{IsSound}
 use Rattle.host_model.specs.declared.fault.Stop.{Stop}
 use Rattle.node_store.specs.declared.changes.NodeOp.{NodeOp}
 use Rattle.node_store.specs.Steps.{MayGive, Gives}
-use Rattle.node_store.specs.Value.{StoreValue}
 use Rattle.ground_store.specs.Value.{GroundValue}
-use Rattle.ground_store.specs.Acts.{Acts, Goes}
+use Rattle.ground_store.specs.Acts.{Acts}
 use Rattle.ground_store.specs.Steps.{MayWrite, Writes}
 use Rattle.ground_store.proofs.EventLemmas.{acts_then}
 use Rattle.server_nodes.specs.Sessions.{session_of, log_of}

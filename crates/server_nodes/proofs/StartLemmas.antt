@@ -1,5 +1,5 @@
 -- The changes with which a server starts.
-use Rattle.std.proofs.Common.{◌≡◌, ◌≢◌, ◌⊎◌, inl, inr, ⊎_elim, ℕ, ◌+◌, ◌^◌, ◌<◌, ◌≤◌, List, [], ◌∷◌, ◌++◌, get_or, Option, Some, None, Result, Ok, Err, IsTrue, refl, sym, ◌∙◌, ap, subst, arith}
+use Rattle.std.proofs.Common.{◌≡◌, ◌≢◌, ◌⊎◌, inl, inr, ⊎_elim, ℕ, ◌+◌, ◌^◌, ◌≤◌, List, [], ◌∷◌, get_or, Some, None, Result, Ok, Err, refl, sym, ◌∙◌, ap, subst, arith}
 use Rattle.std.specs.FinMap as map
 use Rattle.std.specs.Fmt.{decimal}
 use Rattle.std.proofs.lemmas.Fmt.{decimal_injective}
@@ -16,7 +16,7 @@ use Rattle.node_store.specs.Answers.{IsFull, MultiCause, IsRefusal, AnswersOrNoM
 use Rattle.store_layout.specs.Nodes.{IsNext, next_session_path}
 use Rattle.server_nodes.specs.Sessions.{session_of, log_of, server_path, log_path}
 use Rattle.server_nodes.specs.Starting.{start_ops, put_op, IsDrawable, IsStartFull}
-use Rattle.server_nodes.specs.Started.{HasValue, HasStarted}
+use Rattle.server_nodes.specs.Started.{HasStarted}
 use Rattle.server_nodes.proofs.PutLemmas.{MadeOrFull, made_then, GivesValue, set_made, put_made}
 
 -- ---- paths that are apart

@@ -1,5 +1,5 @@
 -- How the nodes of servers are taken out.
-use Rattle.std.specs.Prelude.{◌≡◌, ◌⊎◌, List, [], ◌∷◌, ℕ, codes, map, None}
+use Rattle.std.specs.Prelude.{List, [], ◌∷◌, ℕ, codes, map, None}
 use Rattle.std.specs.FinMap as finite
 use Rattle.host_model.specs.Picture.{Image}
 use Rattle.host_model.specs.State.{HostState}

@@ -1,4 +1,4 @@
-use Rattle.std.proofs.Common.{◌∙◌, ap, subst}
+use Rattle.std.proofs.Common.{◌∙◌, ap}
 use Rattle.server_nodes.specs.Ending.{clear_ops}
 use Rattle.server_nodes.proofs.StartLemmas.{never_refused}
 use Rattle.server_nodes.proofs.ClearLemmas.{never_wanting}

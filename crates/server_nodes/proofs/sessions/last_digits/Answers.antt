@@ -1,4 +1,4 @@
-use Rattle.std.proofs.Common.{◌∙◌, sym, arith}
+use Rattle.std.proofs.Common.{◌∙◌, arith}
 use Rattle.server_nodes.proofs.DigitLemmas.{digits_begin, digits_more, digits_end}
 use Rattle.server_nodes.proofs.sessions.last_digits.Goals as goal
 

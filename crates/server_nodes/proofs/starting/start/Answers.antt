@@ -5,7 +5,6 @@ use Rattle.node_store.specs.Nodes.{multi_applied}
 use Rattle.node_store.specs.Steps.{MayGive}
 use Rattle.ground_store.specs.Acts.{Acts, stop_in}
 use Rattle.ground_store.specs.Steps.{Gave}
-use Rattle.server_nodes.specs.Sessions.{session_of}
 use Rattle.server_nodes.specs.Starting.{start_ops, IsDrawable, IsStartFull}
 use Rattle.server_nodes.proofs.StartLemmas.{never_refused, not_refused, has_started, full_not_made, not_full}
 use Rattle.server_nodes.proofs.StartActs.{starts, starts_no_server}
@@ -32,15 +31,15 @@ returns-in-Ok-multi-clause-started g c =
       drawn = drawn;
       is = c.in-Ok.ensures.session;
       nodes = has_started c.args.ground.now.nodes.nodes c.args.name.now c.in-Ok.plan.number c.multi.new.self.nodes.nodes drawn.next
-        (ap (λ l. multi_applied l c.args.ground.now.nodes.nodes) (sym ops) ∙ ap (λ n. multi_applied c.deref.result.now n.nodes) (sym c.in_ok-make_log.ensures.nodes) ∙ c.in-Ok-multi.ensures.nodes);
+          (ap (λ l. multi_applied l c.args.ground.now.nodes.nodes) (sym ops) ∙ ap (λ n. multi_applied c.deref.result.now n.nodes) (sym c.in_ok-make_log.ensures.nodes) ∙ c.in-Ok-multi.ensures.nodes);
     }
 
 pub returns-in-Ok-multi-clause-full : goal.returns-in-Ok-multi-clause-full
 returns-in-Ok-multi-clause-full g c = λ full.
     let same = c.nodes.ensures ∙ sym c.in_ok-make_log.ensures.nodes in
     absurd (not_full c.in-Ok-multi.field-0 (c.in-Ok-multi.ensures.due (c.in_ok-make_log.ensures.acts.goes c.in_ok-check.ensures.runs).goes_on (Stop Full)
-      (full_not_made c.args.name.now c.make_log.new.self.nodes c.in-Ok.plan.number c.deref.result.now (subst (λ n. IsDrawable n.nodes c.in-Ok.plan.number) same c.in-Ok.ensures.number)
-        (c.deref.ensures.value ∙ c.in-Ok.ensures.ops ∙ ap (λ n. start_ops n.nodes c.args.name.now c.in-Ok.plan.number) same) (subst (IsStartFull c.args.name.now) (sym c.in_ok-make_log.ensures.nodes) full))))
+    (full_not_made c.args.name.now c.make_log.new.self.nodes c.in-Ok.plan.number c.deref.result.now (subst (λ n. IsDrawable n.nodes c.in-Ok.plan.number) same c.in-Ok.ensures.number)
+    (c.deref.ensures.value ∙ c.in-Ok.ensures.ops ∙ ap (λ n. start_ops n.nodes c.args.name.now c.in-Ok.plan.number) same) (subst (IsStartFull c.args.name.now) (sym c.in_ok-make_log.ensures.nodes) full))))
 
 pub returns-in-Err-multi-clause-acts : goal.returns-in-Err-multi-clause-acts
 returns-in-Err-multi-clause-acts g c =
