@@ -3,3 +3,5 @@ mod PutLemmas
 pub mod StartLemmas
 mod StartActs
 mod ClearLemmas
+mod KeptStart
+mod KeptImages

@@ -36,9 +36,9 @@ module _ {H : Type 0} (state : H → HostState) {x y : GroundValue H} (sound : I
   starts {z} gives =
       let own : Acts state (MayGive own_ops x.nodes) (Gives own_ops x.nodes) None y z = subst (λ n. Acts state (MayGive own_ops n) (Gives own_ops n) None y z) same (subst (λ l. Acts state (MayGive l y.nodes) (Gives l y.nodes) None y z) ops_are gives) in
       acts_then state (MayStart name x.nodes) (Starts name x.nodes) sound made own
-      (λ f i writes. inr (inl (record { number = number; next = drawn.next; writes = writes })))
-      (λ f log_made i may. inr (inr (record { number = number; next = drawn.next; made = (state y.host).files; log = log_made; gives = may })))
-      (λ f log_made given. record { number = number; next = drawn.next; made = (state y.host).files; log = log_made; gives = given })
+      (λ f i writes. inr (inl (record { number = number; drawn = drawn; writes = writes })))
+      (λ f log_made i may. inr (inr (record { number = number; drawn = drawn; made = (state y.host).files; log = log_made; gives = may })))
+      (λ f log_made given. record { number = number; drawn = drawn; made = (state y.host).files; log = log_made; gives = given })
 
   -- or they aren't
   pub starts_no_server : {stop : Stop} {A : Change} {z : GroundValue H} → Acts state (MayGive ops y.nodes) A (Some stop) y z → Acts state (MayStart name x.nodes) (Starts name x.nodes) (Some stop) x z
@@ -46,6 +46,6 @@ module _ {H : Type 0} (state : H → HostState) {x y : GroundValue H} (sound : I
       let own : Acts state (MayGive own_ops x.nodes) (Gives own_ops x.nodes) (Some stop) y z =
       subst (λ n. Acts state (MayGive own_ops n) (Gives own_ops n) (Some stop) y z) same (subst (λ l. Acts state (MayGive l y.nodes) (Gives l y.nodes) (Some stop) y z) ops_are (failed state (Gives ops y.nodes) gives)) in
       acts_then state (MayStart name x.nodes) (Starts name x.nodes) sound made own
-      (λ f i writes. inr (inl (record { number = number; next = drawn.next; writes = writes })))
-      (λ f log_made i may. inr (inr (record { number = number; next = drawn.next; made = (state y.host).files; log = log_made; gives = may })))
-      (λ f log_made given. record { number = number; next = drawn.next; made = (state y.host).files; log = log_made; gives = given })
+      (λ f i writes. inr (inl (record { number = number; drawn = drawn; writes = writes })))
+      (λ f log_made i may. inr (inr (record { number = number; drawn = drawn; made = (state y.host).files; log = log_made; gives = may })))
+      (λ f log_made given. record { number = number; drawn = drawn; made = (state y.host).files; log = log_made; gives = given })

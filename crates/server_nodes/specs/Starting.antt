@@ -36,12 +36,17 @@ start_ops nodes name number =
     ∷ put_op nodes (log_path (session_of number)) (log_of (session_of number))
     ∷ put_op nodes (server_path name) (session_of number) ∷ []
 
+-- the number is the next one, and one more can be drawn behind it
+pub record IsDrawable (nodes : Nodes) (number : ℕ) : Type 0 where
+  pub next : IsNext nodes next_session_path number
+  pub more : number + 1 < 2 ^ 63
+
 -- ---- the files
 
 -- the log is made anew, and then the nodes are changed
 pub record Starts (name : List ℕ) (store : StoreValue) (old new : Image) : Type 0 where
   pub number : ℕ
-  pub next : IsNext store.nodes next_session_path number
+  pub drawn : IsDrawable store.nodes number
   pub made : Image
   pub log : Writes (log_of (session_of number)) (0 ∷ []) old made
   pub gives : Gives (start_ops store.nodes name number) store made new
@@ -49,13 +54,13 @@ pub record Starts (name : List ℕ) (store : StoreValue) (old new : Image) : Typ
 -- the log alone is changed, in any way
 pub record MakesLog (store : StoreValue) (old new : Image) : Type 0 where
   pub number : ℕ
-  pub next : IsNext store.nodes next_session_path number
+  pub drawn : IsDrawable store.nodes number
   pub writes : MayWrite (log_of (session_of number)) old new
 
 -- the log is made anew, and then the nodes are changed or not
 pub record MakesLogFirst (name : List ℕ) (store : StoreValue) (old new : Image) : Type 0 where
   pub number : ℕ
-  pub next : IsNext store.nodes next_session_path number
+  pub drawn : IsDrawable store.nodes number
   pub made : Image
   pub log : Writes (log_of (session_of number)) (0 ∷ []) old made
   pub gives : MayGive (start_ops store.nodes name number) store made new
@@ -65,11 +70,6 @@ abbrev pub MayStart : List ℕ → StoreValue → Image → Image → Type 0
 MayStart name store old new = Stays old new ⊎ MakesLog store old new ⊎ MakesLogFirst name store old new
 
 -- ---- why it stops
-
--- the number is the next one, and one more can be drawn behind it
-pub record IsDrawable (nodes : Nodes) (number : ℕ) : Type 0 where
-  pub next : IsNext nodes next_session_path number
-  pub more : number + 1 < 2 ^ 63
 
 -- why no session can be drawn, whatever the room
 abbrev pub PlanCause : Nodes → Stop → Type 0

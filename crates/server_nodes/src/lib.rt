@@ -7,6 +7,7 @@
 #![tactic(auto)]
 
 mod ending;
+mod laws;
 mod paths;
 mod planning;
 mod sessions;
@@ -14,4 +15,5 @@ mod starting;
 mod stops;
 
 pub use ending::{clear, end};
+pub use laws::a_server_may_start;
 pub use starting::start;
