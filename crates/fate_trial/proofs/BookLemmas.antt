@@ -1,5 +1,5 @@
 -- What changes of a transaction's own nodes make of books.
-use Rattle.std.proofs.Common.{◌≡◌, ◌≢◌, ◌⊎◌, inl, inr, ⊎_elim, ℕ, ◌^◌, ◌<◌, List, [], ◌∷◌, Option, Some, None, Result, Ok, Err, IsTrue, OnOk, refl, sym, ◌∙◌, ap, subst}
+use Rattle.std.proofs.Common.{◌≡◌, ◌≢◌, inl, inr, ⊎_elim, ℕ, ◌^◌, ◌<◌, List, [], ◌∷◌, Option, None, Result, Err, IsTrue, sym, ◌∙◌, ap, subst}
 use Rattle.std.proofs.lemmas.Result.{on_ok_weaker}
 use Rattle.host_model.specs.Picture.{Picture}
 use Rattle.host_model.specs.State.{HostState, picture_now}
@@ -7,16 +7,16 @@ use Rattle.host_model.specs.Calls.{IsSound}
 use Rattle.host_model.specs.declared.fault.Stop.{Stop}
 use Rattle.host_model.proofs.LeavesLemmas.{leaves_weaker}
 use Rattle.node_store.specs.declared.changes.NodeOp.{NodeOp}
-use Rattle.node_store.specs.Nodes.{Nodes, path_of}
+use Rattle.node_store.specs.Nodes.{Nodes}
 use Rattle.fate_runner.specs.Book.{Book, SetsBook}
 use Rattle.fate_runner.specs.Works.{Acts, Sets, MaySetBook}
 use Rattle.fate_runner.proofs.Working.{not_begun}
 use Rattle.fate_trial.specs.declared.layout.Slot.{Slot}
-use Rattle.fate_trial.specs.declared.layout.Slot.TheVariants.{Status, Lower, Upper, Walls, Roof}
+use Rattle.fate_trial.specs.declared.layout.Slot.TheVariants.{Status, Lower, Upper}
 use Rattle.fate_trial.specs.Layout.{slot_path, slot_value, value_at, written}
 use Rattle.fate_trial.specs.declared.site.Site.{Site}
 use Rattle.fate_trial.specs.Site.{nodes_of, Makes, MayMake, GoesOn}
-use Rattle.fate_trial.specs.Stored.{book_from, book_of, book_at, IsOfBook, IsOutside, Alike, AreOfBook, slot_after, WritesBook}
+use Rattle.fate_trial.specs.Stored.{book_from, book_of, book_at, IsOutside, Alike, AreOfBook, slot_after, WritesBook}
 use Rattle.fate_trial.proofs.Values.{written-none, written-other}
 use Rattle.fate_trial.specs.SlotLemmas.{tids_apart, slot-small, slot-same}
 use Rattle.fate_trial.proofs.SiteLemmas.{makes_none, site_nodes}

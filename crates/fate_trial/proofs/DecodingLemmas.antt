@@ -1,14 +1,14 @@
 -- What is spelled is read again.
-use Rattle.std.proofs.Common.{◌≡◌, ◌≢◌, ℕ, zero, suc, ◌+◌, ◌^◌, ◌<◌, ◌≤◌, ◌==◌, cond, true, false, List, [], ◌∷◌, ◌++◌, length, take, drop, All, Option, Some, None, Ok, Err, refl, sym, ◌∙◌, ap, subst, arith, append_assoc, length-append}
+use Rattle.std.proofs.Common.{◌≡◌, ◌≢◌, ℕ, zero, suc, ◌^◌, ◌<◌, ◌≤◌, cond, List, [], ◌∷◌, ◌++◌, length, take, drop, All, None, refl, sym, ◌∙◌, ap, arith, append_assoc, length-append}
 use Rattle.std.specs.FinMap as map
-use Rattle.std.specs.Int.{Width, w16, w32, byte_len, to_be_bytes}
+use Rattle.std.specs.Int.{Width, w16, w32, byte_len}
 use Rattle.std.specs.List.{flat_map}
 use Rattle.std.proofs.lemmas.List.{take_at, drop_at}
 use Rattle.std.proofs.lemmas.List.Elements.{All-head, All-tail}
-use borrow.Author.Tests.{eq-eqb, ne_eqb}
+use borrow.Author.Tests.{ne_eqb}
 use Rattle.byteorder.specs.Endian.{big_number}
 use Rattle.byteorder.specs.Numbers.{big_number-reads_back}
-use Rattle.host_model.specs.Picture.{Image, file_at}
+use Rattle.host_model.specs.Picture.{Image}
 use Rattle.journal_core.specs.Records.{body, spelled, HasRecords}
 use Rattle.bytes_form.specs.Fields.{number_field, counted_field, long_field, sized_field}
 use Rattle.bytes_form.proofs.FieldsLemmas.{length-number_field}
@@ -16,7 +16,7 @@ use Rattle.node_store.specs.declared.changes.NodeOp.{NodeOp}
 use Rattle.node_store.specs.declared.changes.NodeOp.TheVariants.{Create, Set, Delete}
 use Rattle.node_store.specs.Nodes.{Nodes, multi_applied}
 use Rattle.node_store.specs.Multi.{spelled_change, spelled_multi, IsWritten, IsMulti}
-use Rattle.node_store.specs.Image.{Turns, FoldTo, HasNodes}
+use Rattle.node_store.specs.Image.{FoldTo, HasNodes}
 use Rattle.fate_trial.specs.Decoding.{counted, behind, payloads, change_at, behind_change, changes_at, or_same, nodes_after, nodes_of_file, nodes_in}
 
 -- ---- fields

@@ -1,5 +1,5 @@
 -- The words of steps.
-use Rattle.std.proofs.Common.{◌≡◌, ◌≢◌, Bool, true, false, List, [], refl, sym, ◌∙◌, ap}
+use Rattle.std.proofs.Common.{◌≡◌, ◌≢◌, Bool, true, false, [], refl, sym, ◌∙◌, ap}
 use Rattle.std.specs.Prelude.{MatchBool}
 use Rattle.fate_runner.specs.declared.text.StepWords.{StepWords}
 use Rattle.fate_trial.specs.declared.levels.Level.{Level}

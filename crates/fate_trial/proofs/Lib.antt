@@ -1,6 +1,7 @@
 pub mod DecodingLemmas
 pub mod Values
 pub mod SiteLemmas
+pub mod StopLemmas
 pub mod ReadyLemmas
 pub mod BookLemmas
 pub mod StackLemmas

@@ -1,18 +1,18 @@
 -- What is made of a tower's part.
-use Rattle.std.proofs.Common.{◌≡◌, ◌≢◌, ◌⊎◌, inl, inr, ⊎_elim, ℕ, ◌^◌, ◌<◌, Bool, true, false, List, [], ◌∷◌, Option, Some, None, is_some, Result, Ok, Err, IsTrue, refl, sym, ◌∙◌, ap, subst, arith}
+use Rattle.std.proofs.Common.{◌≡◌, inl, inr, ⊎_elim, ℕ, ◌^◌, ◌<◌, Bool, true, false, List, [], ◌∷◌, Option, Some, None, is_some, Result, Ok, Err, IsTrue, refl, sym, ◌∙◌, ap, subst}
 use Rattle.host_model.specs.Picture.{Picture}
 use Rattle.host_model.specs.State.{HostState, picture_now}
 use Rattle.host_model.specs.Calls.{IsSound}
 use Rattle.host_model.specs.declared.fault.Stop.{Stop}
 use Rattle.host_model.proofs.CallsLemmas.{keeps-refl, looks-refl}
 use Rattle.node_store.specs.declared.changes.NodeOp.{NodeOp}
-use Rattle.node_store.specs.declared.changes.NodeOp.TheVariants.{Create, Set, Delete}
+use Rattle.node_store.specs.declared.changes.NodeOp.TheVariants.{Create, Delete}
 use Rattle.node_store.specs.Nodes.{Nodes, path_of}
 use Rattle.fate_runner.specs.Works.{Acts}
 use Rattle.fate_runner.proofs.Turning.{only_looks}
 use Rattle.fate_runner.proofs.Working.{acts_weaker, not_begun}
 use Rattle.fate_trial.specs.declared.layout.Slot.{Slot}
-use Rattle.fate_trial.specs.Layout.{slot_path, slot_value, value_at, has, left_by, written, Applies}
+use Rattle.fate_trial.specs.Layout.{slot_path, value_at, has, left_by, Applies}
 use Rattle.fate_trial.specs.Site.{nodes_of, Makes, MayMake}
 use Rattle.fate_trial.specs.Towers.{Sets, MaySet}
 use Rattle.fate_trial.proofs.ReadyLemmas.{IsReady, applies_ready}
@@ -74,9 +74,9 @@ create_applies nodes part t small value free = applies_ready (Create (slot_path 
 pub delete_applies : (nodes : Nodes) (part : Slot) (t : ℕ) → t < 2 ^ 64 → has nodes part t ≡ true → Applies (Delete (slot_path part t) None ∷ []) nodes
 delete_applies nodes part t small is = applies_ready (Delete (slot_path part t) None ∷ []) nodes (subst (λ v. IsReady (Delete (slot_path part t) None) v) (sym (there nodes t small part is).1) tt, λ after done. tt)
 
+pub none_of : (v : Option (List ℕ)) → is_some v ≡ false → v ≡ None
+none_of None e = refl
+none_of (Some v) e = absurd (cc)
+
 pub free_applies : (nodes : Nodes) (path value : List ℕ) → is_some (value_at nodes path) ≡ false → Applies (Create path value ∷ []) nodes
 free_applies nodes path value free = applies_ready (Create path value ∷ []) nodes (subst (λ v. IsReady (Create path value) v) (sym (none_of (value_at nodes path) free)) tt, λ after is. tt)
-  where
-    none_of : (v : Option (List ℕ)) → is_some v ≡ false → v ≡ None
-    none_of None e = refl
-    none_of (Some v) e = absurd (cc)

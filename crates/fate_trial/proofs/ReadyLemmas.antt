@@ -1,5 +1,5 @@
 -- When changes apply.
-use Rattle.std.proofs.Common.{◌≡◌, ◌⊎◌, inl, inr, ⊎_elim, ℕ, ◌+◌, ◌^◌, nat_lt, Bool, true, false, cond, List, [], ◌∷◌, Option, Some, None, Result, Ok, Err, refl, sym, ◌∙◌, ap, subst}
+use Rattle.std.proofs.Common.{◌≡◌, ◌⊎◌, inl, inr, ℕ, ◌+◌, ◌^◌, nat_lt, Bool, true, false, cond, List, [], ◌∷◌, Option, Some, None, Result, Ok, Err, refl, sym, ap, subst}
 use Rattle.std.specs.Prelude.{⊤, MatchResult}
 use Rattle.std.specs.Option.{option_map}
 use Rattle.std.specs.FinMap as map
@@ -10,8 +10,8 @@ use Rattle.node_store.specs.declared.changes.NodeOp.TheVariants.{Create, Set, De
 use Rattle.node_store.specs.declared.changes.NodeStop.{NodeStop}
 use Rattle.node_store.specs.declared.changes.NodeStop.TheVariants.{Stop}
 use Rattle.node_store.specs.PathsTo.{with_entry}
-use Rattle.node_store.specs.Nodes.{Nodes, raised, turned, path_of, and_then, multi_applied}
-use Rattle.fate_trial.specs.Layout.{value_at, left_by, written, Applies}
+use Rattle.node_store.specs.Nodes.{Nodes, turned, path_of, and_then, multi_applied}
+use Rattle.fate_trial.specs.Layout.{value_at, written, Applies}
 use Rattle.fate_trial.proofs.Values.{written-multi}
 
 -- what the path has lets the change be made

@@ -1,6 +1,6 @@
 -- What changes of a site's nodes make of its disk.
-use Rattle.std.proofs.Common.{◌≡◌, ◌⊎◌, inl, inr, ⊎_elim, ℕ, List, [], None, Result, Ok, Err, IsTrue, refl, sym, ◌∙◌, ap, subst}
-use Rattle.host_model.specs.Picture.{Picture, Image}
+use Rattle.std.proofs.Common.{◌≡◌, inl, inr, ⊎_elim, ℕ, List, [], None, Result, Ok, Err, IsTrue, refl, sym, ◌∙◌, ap, subst}
+use Rattle.host_model.specs.Picture.{Picture}
 use Rattle.host_model.specs.State.{HostState, picture_now}
 use Rattle.host_model.specs.Calls.{IsSound}
 use Rattle.host_model.specs.Alters.{Alters}
@@ -8,12 +8,11 @@ use Rattle.host_model.specs.declared.fault.Stop.{Stop}
 use Rattle.host_model.proofs.LeavesLemmas.{alters_leave}
 use Rattle.node_store.specs.declared.changes.NodeOp.{NodeOp}
 use Rattle.node_store.specs.Value.{StoreValue}
-use Rattle.node_store.specs.Nodes.{Nodes, multi_applied}
+use Rattle.node_store.specs.Nodes.{Nodes}
 use Rattle.node_store.specs.Image.{IsNodeFile, HasNodes, IsStored}
 use Rattle.node_store.specs.Steps.{OthersStay, MayGive, Gives, HasApplied}
 use Rattle.node_store.proofs.ImageLemmas.{stored_has}
 use Rattle.fate_runner.specs.Works.{Acts}
-use Rattle.fate_trial.specs.Decoding.{nodes_in}
 use Rattle.fate_trial.specs.Layout.{nodes_name, value_at, written}
 use Rattle.fate_trial.specs.declared.site.Site.{Site}
 use Rattle.fate_trial.specs.Site.{nodes_of, IsReadable, Makes, MayMake, GoesOn}

@@ -1,22 +1,18 @@
 -- The changes that push, pop and set a status.
-use Rattle.std.proofs.Common.{◌≡◌, ◌≢◌, ℕ, ◌^◌, ◌<◌, List, [], ◌∷◌, ◌++◌, length, take, drop, get_or, Option, Some, None, is_some, Bool, true, false, refl, sym, ◌∙◌, ap, subst, arith}
+use Rattle.std.proofs.Common.{◌≡◌, inl, inr, ℕ, cond, ◌^◌, ◌<◌, List, [], ◌∷◌, ◌++◌, length, Option, Some, None, is_some, Bool, true, false, refl, sym, ◌∙◌, ap, subst, arith}
 use Rattle.std.proofs.lemmas.List.{take_at, drop_at}
 use Rattle.node_store.specs.declared.changes.NodeOp.{NodeOp}
-use Rattle.node_store.specs.declared.changes.NodeOp.TheVariants.{Create, Set, Delete}
-use Rattle.node_store.specs.Nodes.{Nodes, path_of}
+use Rattle.node_store.specs.declared.changes.NodeOp.TheVariants.{Create, Delete}
+use Rattle.node_store.specs.Nodes.{Nodes}
 use Rattle.fate_runner.specs.declared.text.StepWords.{StepWords}
-use Rattle.fate_runner.specs.declared.forms.TxStatus.{TxStatus}
-use Rattle.fate_runner.specs.declared.forms.TxStatus.TheVariants.{Submitted, InProgress, FailedInProgress, Failed, Successful}
-use Rattle.fate_runner.specs.declared.forms.Cause.{Cause}
-use Rattle.fate_runner.specs.declared.forms.Cause.TheVariants.{NoTable, Exists, Asked}
-use Rattle.fate_runner.specs.Book.{Book, pushed, popped, tail_of, with_status, cause_after, stack_after}
+use Rattle.fate_runner.specs.Book.{pushed, popped, tail_of}
 use Rattle.fate_trial.specs.declared.layout.Slot.{Slot}
 use Rattle.fate_trial.specs.declared.layout.Slot.TheVariants.{Status, Lower, Upper, Walls, Roof}
-use Rattle.fate_trial.specs.Layout.{slot_path, slot_value, value_at, has, written, left_by}
-use Rattle.fate_trial.specs.Stored.{status_letter, letter_status, cause_letter, letter_cause, letter_after, status_in, cause_in, kind_in, status_value, step_value, words_in, book_from, book_of, slot_after, WritesBook, IsFree, IsTopSlot}
+use Rattle.fate_trial.specs.Layout.{slot_path, slot_value, value_at, has}
+use Rattle.fate_trial.specs.Stored.{status_in, cause_in, kind_in, step_value, words_in, book_from, book_of, WritesBook, IsFree, IsTopSlot, HasNoPlace, PushChanges, PopChanges}
 use Rattle.fate_trial.proofs.Values.{written-own, written-past}
 use Rattle.fate_trial.specs.SlotLemmas.{slots_apart, slot-small}
-use Rattle.fate_trial.proofs.ReadyLemmas.{IsReady, AreReady, applies_ready}
+use Rattle.fate_trial.proofs.ReadyLemmas.{IsReady, applies_ready}
 
 -- ---- values
 
@@ -159,3 +155,37 @@ module _ (nodes : Nodes) (t : ℕ) (small : t < 2 ^ 64) where
   pop_written Upper ops is top = subst (λ l. WritesBook t nodes l (popped (book_of nodes t))) (sym is) (let found = there Upper top in pop_upper found.0 found.1)
   pop_written Walls ops is top = absurd top
   pop_written Roof ops is top = absurd top
+
+  -- ---- what the changes of a call make
+
+  pub push_writes : (w : StepWords) (ops : List NodeOp) → PushChanges nodes t w ops → WritesBook t nodes ops (pushed w (book_of nodes t))
+  push_writes w ops changes = push_written changes.slot w ops changes.is changes.free
+
+  pub pop_writes : (ops : List NodeOp) → PopChanges nodes t ops → WritesBook t nodes ops (popped (book_of nodes t))
+  pop_writes ops changes = pop_written changes.slot ops changes.is changes.top
+
+  -- ---- where there are changes, nothing is refused
+
+  clash : {b : Bool} → b ≡ true → b ≡ false → ⊥
+  clash is other = omega (arith, ap {B = ℕ} (λ b. cond b 1 0) (sym is ∙ other))
+
+  pub has_place : (w : StepWords) (ops : List NodeOp) → PushChanges nodes t w ops → HasNoPlace nodes t w → ⊥
+  has_place w ops changes (inl two) = free (changes.slot) changes.free
+    where
+      free : (slot : Slot) → IsFree nodes t (Some slot) → ⊥
+      free Status is = is
+      free Lower is = clash two is.0
+      free Upper is = clash two is.0
+      free Walls is = is
+      free Roof is = is
+  has_place w ops changes (inr long) = omega (arith, changes.short, long)
+
+  pub has_top : (ops : List NodeOp) → PopChanges nodes t ops → IsTopSlot nodes t None → ⊥
+  has_top ops changes none = top (changes.slot) changes.top
+    where
+      top : (slot : Slot) → IsTopSlot nodes t (Some slot) → ⊥
+      top Status is = is
+      top Lower is = clash is.1 none.1
+      top Upper is = clash is none.0
+      top Walls is = is
+      top Roof is = is

@@ -1,19 +1,18 @@
 -- The changes that set a status.
-use Rattle.std.proofs.Common.{◌≡◌, ◌≢◌, ℕ, ◌^◌, ◌<◌, List, [], ◌∷◌, ◌++◌, length, take, drop, get_or, Option, Some, None, refl, sym, ◌∙◌, ap, subst, arith}
-use Rattle.std.proofs.lemmas.List.{take_at, drop_at}
+use Rattle.std.proofs.Common.{◌≡◌, ◌≢◌, ℕ, ◌^◌, ◌<◌, List, [], ◌∷◌, ◌++◌, get_or, Option, Some, None, is_some, cond, refl, sym, ◌∙◌, ap, subst, arith}
 use Rattle.node_store.specs.declared.changes.NodeOp.{NodeOp}
-use Rattle.node_store.specs.declared.changes.NodeOp.TheVariants.{Create, Set, Delete}
-use Rattle.node_store.specs.Nodes.{Nodes, path_of}
+use Rattle.node_store.specs.declared.changes.NodeOp.TheVariants.{Set, Delete}
+use Rattle.node_store.specs.Nodes.{Nodes}
 use Rattle.fate_runner.specs.declared.text.StepWords.{StepWords}
 use Rattle.fate_runner.specs.declared.forms.TxStatus.{TxStatus}
 use Rattle.fate_runner.specs.declared.forms.TxStatus.TheVariants.{Submitted, InProgress, FailedInProgress, Failed, Successful}
 use Rattle.fate_runner.specs.declared.forms.Cause.{Cause}
 use Rattle.fate_runner.specs.declared.forms.Cause.TheVariants.{NoTable, Exists, Asked}
-use Rattle.fate_runner.specs.Book.{Book, pushed, popped, tail_of, with_status, cause_after, stack_after}
+use Rattle.fate_runner.specs.Book.{Book, with_status, cause_after, stack_after}
 use Rattle.fate_trial.specs.declared.layout.Slot.{Slot}
-use Rattle.fate_trial.specs.declared.layout.Slot.TheVariants.{Status, Lower, Upper, Walls, Roof}
-use Rattle.fate_trial.specs.Layout.{slot_path, slot_value, value_at, written, left_by}
-use Rattle.fate_trial.specs.Stored.{status_letter, letter_status, cause_letter, letter_cause, letter_after, status_in, cause_in, kind_in, status_value, step_value, words_in, book_from, book_of, AreOfBook, slot_after, WritesBook, taking, status_ops}
+use Rattle.fate_trial.specs.declared.layout.Slot.TheVariants.{Status, Lower, Upper}
+use Rattle.fate_trial.specs.Layout.{slot_path, slot_value, value_at, written}
+use Rattle.fate_trial.specs.Stored.{status_letter, letter_status, letter_cause, letter_after, status_in, cause_in, kind_in, status_value, words_in, book_from, book_of, AreOfBook, WritesBook, status_ops, StatusChanges}
 use Rattle.fate_trial.proofs.Values.{written-none, written-same, written-other, written-own, written-past}
 use Rattle.fate_trial.specs.SlotLemmas.{slots_apart, slot-small}
 use Rattle.fate_trial.proofs.ReadyLemmas.{IsReady, AreReady, applies_ready}
@@ -140,3 +139,12 @@ module _ (nodes : Nodes) (t : ℕ) (small : t < 2 ^ 64) (cause : Option Cause) (
   status_written FailedInProgress upper lower has_upper has_lower = stays FailedInProgress refl
   status_written Failed upper lower has_upper has_lower = stays Failed refl
   status_written Successful upper lower has_upper has_lower = ends upper lower has_upper has_lower
+
+pub status_writes : (nodes : Nodes) (t : ℕ) → t < 2 ^ 64 → (status : TxStatus) (cause : Option Cause) (ops : List NodeOp) → StatusChanges nodes t status cause ops → WritesBook t nodes ops (with_status status cause (book_of nodes t))
+status_writes nodes t small status cause ops changes =
+    subst (λ l. WritesBook t nodes l (with_status status cause (book_of nodes t))) (sym changes.is)
+    (status_written nodes t small cause changes.old changes.there status (value_at nodes (slot_path Upper t)) (value_at nodes (slot_path Lower t)) refl refl)
+
+-- where there are changes, there is the transaction
+pub has_status : (nodes : Nodes) (t : ℕ) (status : TxStatus) (cause : Option Cause) (ops : List NodeOp) → StatusChanges nodes t status cause ops → value_at nodes (slot_path Status t) ≡ None → ⊥
+has_status nodes t status cause ops changes none = omega (arith, ap {B = ℕ} (λ (v : Option (List ℕ)). cond (is_some v) 1 0) (sym none ∙ changes.there))

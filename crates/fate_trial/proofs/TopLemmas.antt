@@ -1,8 +1,8 @@
 -- What values of nodes say of a book.
-use Rattle.std.proofs.Common.{◌≡◌, ℕ, ◌^◌, ◌<◌, List, [], ◌∷◌, ◌++◌, Option, Some, None, refl, sym, ◌∙◌, ap, subst}
+use Rattle.std.proofs.Common.{◌≡◌, ℕ, ◌^◌, ◌<◌, List, [], ◌∷◌, ◌++◌, Option, Some, None, sym, ◌∙◌, ap}
 use Rattle.node_store.specs.Nodes.{Nodes}
 use Rattle.fate_runner.specs.declared.text.StepWords.{StepWords}
-use Rattle.fate_trial.specs.declared.layout.Slot.TheVariants.{Status, Lower, Upper, Walls, Roof}
+use Rattle.fate_trial.specs.declared.layout.Slot.TheVariants.{Status, Lower, Upper}
 use Rattle.fate_trial.specs.Layout.{slot_path, slot_value, value_at}
 use Rattle.fate_trial.specs.Stored.{status_in, kind_in, words_in, book_of, IsTopWords}
 use Rattle.fate_trial.specs.SlotLemmas.{slot-small}

@@ -1,22 +1,18 @@
 -- What changes make of the values of nodes.
-use Rattle.std.proofs.Common.{◌≡◌, ◌≢◌, ℕ, ◌+◌, ◌^◌, ◌<◌, nat_lt, Bool, true, false, cond, List, [], ◌∷◌, ◌++◌, Option, Some, None, Result, Ok, Err, refl, sym, ◌∙◌, ap, subst, arith}
+use Rattle.std.proofs.Common.{◌≡◌, ◌≢◌, ℕ, ◌+◌, ◌^◌, nat_lt, Bool, true, false, cond, List, [], ◌∷◌, Option, Some, None, Result, Ok, Err, refl, sym, ◌∙◌, ap}
 use Rattle.std.specs.Option.{option_map}
 use Rattle.std.specs.Ordering.{eq_by_cmp}
 use Rattle.std.specs.FinMap as map
-use Rattle.std.specs.Fmt.{decimal}
-use Rattle.std.proofs.lemmas.Fmt.{decimal_injective}
-use Rattle.std.proofs.lemmas.Bool.Decides.{nat_tests}
 use Rattle.std.proofs.lemmas.Map.Views.{tells_apart}
 use Rattle.std.proofs.lemmas.Map.Lookups.{exact_bytes}
 use Rattle.std.specs.Cmp.{eq_by_cmp_equiv}
 use Rattle.std.specs.Cmp.Lexicographic.{nat_list_cmp_total}
-use Rattle.bytes_form.proofs.FieldsLemmas.{parted}
 use Rattle.node_store.specs.declared.changes.Node.{Node}
 use Rattle.node_store.specs.declared.changes.NodeOp.{NodeOp}
 use Rattle.node_store.specs.declared.changes.NodeOp.TheVariants.{Create, Set, Delete}
 use Rattle.node_store.specs.declared.changes.NodeStop.{NodeStop}
 use Rattle.node_store.specs.PathsTo.{path_cmp, with_entry}
-use Rattle.node_store.specs.Nodes.{Nodes, allows, raised, turned, path_of, and_then, applied, multi_applied}
+use Rattle.node_store.specs.Nodes.{Nodes, allows, raised, turned, path_of, and_then, multi_applied}
 use Rattle.node_store.proofs.PathMaps.{get-with_entry}
 use Rattle.fate_trial.specs.Layout.{value_at, left_by, written}
 

@@ -6,7 +6,7 @@ use Rattle.host_model.specs.Calls.{IsSound}
 use Rattle.host_model.specs.declared.fault.Stop.{Stop}
 use Rattle.fate_runner.specs.declared.text.StepWords.{StepWords}
 use Rattle.fate_runner.specs.declared.forms.TxStatus.{TxStatus}
-use Rattle.fate_runner.specs.declared.forms.TxStatus.TheVariants.{Submitted, InProgress, FailedInProgress, Failed, Successful}
+use Rattle.fate_runner.specs.declared.forms.TxStatus.TheVariants.{InProgress, FailedInProgress, Successful}
 use Rattle.fate_runner.specs.declared.forms.Cause.TheVariants.{Exists}
 use Rattle.fate_runner.specs.Book.{Book, IsKept, Within, pushed, popped, tail_of, with_status}
 use Rattle.fate_runner.specs.Works.{Acts, Works, IsTop, undone_book}
@@ -18,8 +18,8 @@ use Rattle.fate_trial.specs.declared.layout.Slot.TheVariants.{Status, Lower, Upp
 use Rattle.fate_trial.specs.Layout.{slot_path, slot_value, has}
 use Rattle.fate_trial.specs.Site.{nodes_of}
 use Rattle.fate_trial.specs.Stored.{book_from, book_of, book_at, IsOfBook}
-use Rattle.fate_trial.specs.Towers.{raise, cover, level_words, LevelSuits, IsGoing, Fits, Unknown, Waits, At_raise, At_cover, Undone, Ended, Leaves, tower_meaning, Sets, MaySet, IsPart}
-use Rattle.fate_trial.specs.TowerLaws.{tower_lawful, status_code, size_code, apart}
+use Rattle.fate_trial.specs.Towers.{raise, cover, level_words, LevelSuits, IsGoing, Fits, Unknown, Waits, At_raise, At_cover, Undone, Ended, tower_meaning, Sets, MaySet, IsPart}
+use Rattle.fate_trial.specs.TowerLaws.{tower_lawful, status_code, apart}
 use Rattle.fate_trial.specs.SlotLemmas.{letter, slots_apart, tids_apart, slot-same}
 
 -- ---- what a change of a part leaves

@@ -1,5 +1,5 @@
 -- Where the nodes of a transaction stand, and what changes make of the values of nodes.
-use Rattle.std.specs.Prelude.{◌≡◌, ◌≢◌, ℕ, ◌^◌, nat_lt, if◌then◌else◌, Bool, true, false, List, [], ◌∷◌, ◌++◌, codes, Option, Some, None, is_some, MatchResult, ⊤}
+use Rattle.std.specs.Prelude.{◌≡◌, ℕ, ◌^◌, nat_lt, if◌then◌else◌, Bool, List, [], ◌∷◌, ◌++◌, codes, Option, Some, None, is_some, MatchResult, ⊤}
 use Rattle.std.specs.Fmt.{decimal}
 use Rattle.std.specs.Option.{option_map}
 use Rattle.std.specs.Ordering.{eq_by_cmp}
@@ -59,6 +59,10 @@ left_by (Delete path version) = None
 unfoldable pub written : List NodeOp → List ℕ → Option (List ℕ) → Option (List ℕ)
 written [] path value = value
 written (op ∷ more) path value = written more path (if eq_by_cmp path_cmp path (path_of op) then left_by op else value)
+
+-- the change that gives a path a node, where it has none
+abbrev pub putting : List ℕ → List ℕ → Bool → List NodeOp
+putting path value there = if there then [] else (Create path value ∷ [])
 
 -- the changes apply, but for a version at its end
 pub record Applies (ops : List NodeOp) (nodes : Nodes) : Type 0 where

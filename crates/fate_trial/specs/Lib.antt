@@ -4,4 +4,5 @@ pub mod Site
 pub mod Stored
 pub mod SlotLemmas
 pub mod Towers
+pub mod Stops
 pub mod TowerLaws

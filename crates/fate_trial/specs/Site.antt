@@ -1,8 +1,7 @@
 -- What contracts see of a site, and what changes of its nodes make of a picture.
-use Rattle.std.specs.Prelude.{◌≡◌, ◌⊎◌, ℕ, List, [], Option, Some, None, IsTrue}
+use Rattle.std.specs.Prelude.{◌≡◌, ◌⊎◌, ℕ, List, [], Some, None, IsTrue}
 use Rattle.host_model.specs.Picture.{Picture}
 use Rattle.host_model.specs.State.{HostState}
-use Rattle.host_model.specs.Calls.{IsOfFiles, Faulted}
 use Rattle.host_model.specs.declared.fault.Stop.{Stop}
 use Rattle.host_model.specs.declared.fault.Stop.TheVariants as stops
 use Rattle.node_store.specs.declared.changes.NodeOp.{NodeOp}
@@ -54,16 +53,3 @@ module _ {H : Type 0} (state : H → HostState) where
     pub halt : Halt
     pub is : site.stopped ≡ Some halt
     pub same : stop ≡ stop_of halt
-
-  -- why a change may fail: a fault that was counted, want of memory, or of room
-  abbrev pub IsCause : Stop → HostState → HostState → Type 0
-  IsCause (stops.Host fault) old new = IsOfFiles fault × Faulted fault old new
-  IsCause (stops.Damaged name) old new = ⊥
-  IsCause stops.Full old new = Unit {0}
-  IsCause stops.NoMemory old new = Unit {0}
-
-  -- Why a call stops: it had stopped before; a change of the nodes failed, and then it has stopped for good; or before any change memory was short, a stack has no room for a step, or what is stored isn't of its form.
-  pub data SiteStops (stop : Stop) (old new : Site H) : Type 0 where
-    Again : IsDead old stop → new ≡ old → SiteStops stop old new
-    Fails : old.stopped ≡ None → IsCause stop (state old.host) (state new.host) → IsDead new stop → SiteStops stop old new
-    Early : old.stopped ≡ None → new ≡ old → SiteStops stop old new

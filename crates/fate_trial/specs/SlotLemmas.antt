@@ -1,16 +1,13 @@
 -- Slots of transactions, and changes of them.
-use Rattle.std.proofs.Common.{◌≡◌, ◌≢◌, ◌⊎◌, inl, inr, ⊎_elim, ℕ, ◌^◌, ◌<◌, ◌≤◌, nat_lt, Bool, true, false, cond, List, [], ◌∷◌, ◌++◌, length, get_or, Option, Some, None, is_some, refl, sym, ◌∙◌, ap, subst, arith}
+use Rattle.std.proofs.Common.{◌≡◌, ◌≢◌, ℕ, ◌^◌, ◌<◌, nat_lt, Bool, true, false, cond, List, length, get_or, Option, None, is_some, refl, sym, ◌∙◌, ap}
 use Rattle.std.specs.Fmt.{decimal}
-use Rattle.std.specs.Option.{option_map}
-use Rattle.std.specs.FinMap as map
 use Rattle.std.proofs.lemmas.Fmt.{decimal_injective}
 use Rattle.std.proofs.lemmas.Bool.{ltb-true, lt-ltb}
 use Rattle.bytes_form.proofs.FieldsLemmas.{parted}
-use Rattle.node_store.specs.declared.changes.NodeOp.{NodeOp}
-use Rattle.node_store.specs.Nodes.{Nodes, path_of}
+use Rattle.node_store.specs.Nodes.{Nodes}
 use Rattle.fate_trial.specs.declared.layout.Slot.{Slot}
 use Rattle.fate_trial.specs.declared.layout.Slot.TheVariants.{Status, Lower, Upper, Walls, Roof}
-use Rattle.fate_trial.specs.Layout.{slot_text, slot_path, slot_value, value_at, has, written}
+use Rattle.fate_trial.specs.Layout.{slot_text, slot_path, slot_value, value_at, has}
 
 -- ---- paths
 

@@ -1,5 +1,5 @@
 -- What is stored of a transaction: a status node and the nodes of at most two steps.
-use Rattle.std.specs.Prelude.{◌≡◌, ◌≢◌, ℕ, ◌==◌, if◌then◌else◌, true, false, List, [], ◌∷◌, ◌++◌, length, take, drop, slice_index_or, Option, Some, None, IsTrue}
+use Rattle.std.specs.Prelude.{◌≡◌, ◌≢◌, ◌⊎◌, ◌≤◌, ◌<◌, ℕ, ◌==◌, if◌then◌else◌, true, false, List, [], ◌∷◌, ◌++◌, length, take, drop, slice_index_or, Option, Some, None}
 use Rattle.host_model.specs.Picture.{Picture}
 use Rattle.node_store.specs.declared.changes.NodeOp.{NodeOp}
 use Rattle.node_store.specs.declared.changes.NodeOp.TheVariants.{Create, Set, Delete}
@@ -148,3 +148,26 @@ IsTopSlot nodes tid (Some Lower) = (has nodes Upper tid ≡ false) × (has nodes
 IsTopSlot nodes tid (Some Upper) = has nodes Upper tid ≡ true
 IsTopSlot nodes tid (Some Walls) = ⊥
 IsTopSlot nodes tid (Some Roof) = ⊥
+
+-- a push has no place: there are two steps, or the length of the step's name is no byte
+abbrev pub HasNoPlace : Nodes → ℕ → StepWords → Type 0
+HasNoPlace nodes tid words = IsFree nodes tid None ⊎ (256 ≤ length words.name)
+
+-- the changes push this step
+pub record PushChanges (nodes : Nodes) (tid : ℕ) (words : StepWords) (ops : List NodeOp) : Type 0 where
+  pub short : length words.name < 256
+  pub slot : Slot
+  pub free : IsFree nodes tid (Some slot)
+  pub is : ops ≡ Create (slot_path slot tid) (step_value words) ∷ []
+
+-- they pop the top step
+pub record PopChanges (nodes : Nodes) (tid : ℕ) (ops : List NodeOp) : Type 0 where
+  pub slot : Slot
+  pub top : IsTopSlot nodes tid (Some slot)
+  pub is : ops ≡ Delete (slot_path slot tid) None ∷ []
+
+-- they set the status
+pub record StatusChanges (nodes : Nodes) (tid : ℕ) (status : TxStatus) (cause : Option Cause) (ops : List NodeOp) : Type 0 where
+  pub old : List ℕ
+  pub there : value_at nodes (slot_path Status tid) ≡ Some old
+  pub is : ops ≡ status_ops tid status cause old (value_at nodes (slot_path Upper tid)) (value_at nodes (slot_path Lower tid))

@@ -14,8 +14,8 @@ use Rattle.fate_trial.specs.declared.levels.Level.TheVariants.{Raise, Cover}
 use Rattle.fate_trial.specs.declared.site.Site.{Site}
 use Rattle.fate_trial.specs.Site.{nodes_of, GoesOn}
 use Rattle.fate_trial.specs.Layout.{slot_path, has}
-use Rattle.fate_trial.specs.Stored.{book_at, IsOfBook, Alike}
-use Rattle.fate_trial.specs.Towers.{IsGoing, Fits, Unknown, Waits, At_raise, At_cover, Undone, Ended, Leaves, tower_meaning, tower_reason, tower_answer, level_words, LevelSuits}
+use Rattle.fate_trial.specs.Stored.{IsOfBook, Alike}
+use Rattle.fate_trial.specs.Towers.{IsGoing, Fits, Unknown, Waits, At_raise, At_cover, Undone, Ended, tower_meaning, tower_reason, tower_answer, level_words, LevelSuits}
 use Rattle.fate_trial.specs.SlotLemmas.{letter, slots_apart, slot-same}
 
 -- numbers by which statuses differ, and stacks

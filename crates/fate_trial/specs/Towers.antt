@@ -1,6 +1,8 @@
 -- Towers: what a transaction of two steps makes, and when what it made fits its book.
 use Rattle.std.specs.Prelude.{◌≡◌, ◌⊎◌, ◌≢◌, ℕ, if◌then◌else◌, Bool, true, false, List, [], ◌∷◌, codes, Option, Some, None, Result, Ok, Err, is_some}
 use Rattle.host_model.specs.Picture.{Picture}
+use Rattle.node_store.specs.declared.changes.NodeOp.{NodeOp}
+use Rattle.node_store.specs.declared.changes.NodeOp.TheVariants.{Create, Delete}
 use Rattle.node_store.specs.Nodes.{Nodes}
 use Rattle.fate_runner.specs.declared.text.StepWords.{StepWords}
 use Rattle.fate_runner.specs.declared.forms.TxStatus.{TxStatus}
@@ -16,7 +18,9 @@ use Rattle.fate_runner.specs.declared.forms.Reason.TheVariants.{Lock}
 use Rattle.fate_runner.specs.Book.{Book, Meaning}
 use Rattle.fate_trial.specs.declared.layout.Slot.{Slot}
 use Rattle.fate_trial.specs.declared.layout.Slot.TheVariants.{Walls, Roof}
+use Rattle.fate_runner.specs.Turn.{IsTurn, IsGiven}
 use Rattle.fate_trial.specs.declared.levels.Level.{Level}
+use Rattle.fate_trial.specs.declared.site.Site.{Site}
 use Rattle.fate_trial.specs.declared.levels.Level.TheVariants.{Raise, Cover}
 use Rattle.fate_trial.specs.Layout.{hold_path, ban_path, slot_path, value_at, has}
 use Rattle.fate_trial.specs.Site.{nodes_of, IsReadable}
@@ -71,6 +75,10 @@ pub record Leaves (tid : ℕ) (old new : Picture) : Type 0 where
 abbrev pub tower_meaning : Meaning
 tower_meaning = record { book = book_at; fits = λ p tid b. Fits b (has (nodes_of p) Walls tid) (has (nodes_of p) Roof tid); rest = IsReadable; leaves = Leaves; alike = Alike }
 
+-- a turn makes this book of a tower's: by the rule of turns
+abbrev pub Turns : {H : Type 0} → ℕ → Site H → Book → Book → Type 0
+Turns tid env old new = IsGiven (IsTurn level_words LevelSuits (λ step t going e. tower_reason going e.nodes.nodes) (λ step t e. tower_answer step t e.nodes.nodes) tid env old) new
+
 -- this slot alone changes, and has a node or none
 pub record Sets (slot : Slot) (tid : ℕ) (there : Bool) (old new : Picture) : Type 0 where
   pub readable : IsReadable old → IsReadable new
@@ -84,3 +92,13 @@ MaySet slot tid there old new = Sets slot tid (has (nodes_of old) slot tid) old 
 -- what a tower is made of
 abbrev pub IsPart : Slot → Type 0
 IsPart slot = (slot ≡ Walls) ⊎ (slot ≡ Roof)
+
+-- the changes make a part's node, which isn't there
+pub record MakeChanges (nodes : Nodes) (part : Slot) (tid : ℕ) (ops : List NodeOp) : Type 0 where
+  pub none : has nodes part tid ≡ false
+  pub is : ops ≡ Create (slot_path part tid) (codes "-") ∷ []
+
+-- they take it out
+pub record TakeChanges (nodes : Nodes) (part : Slot) (tid : ℕ) (ops : List NodeOp) : Type 0 where
+  pub there : has nodes part tid ≡ true
+  pub is : ops ≡ Delete (slot_path part tid) None ∷ []

@@ -2,7 +2,7 @@
 ghost use Rattle.std.specs.Prelude.{◌≡◌, ◌≢◌, ℕ, List, MatchOption, MatchBool, IfOk, IfErr};
 ghost use Rattle.host_model.specs.declared.fault.Stop.{Stop};
 ghost use Rattle.fate_runner.specs.Works.{ready_of};
-ghost use Rattle.fate_trial.specs.Site.{SiteStops};
+ghost use Rattle.fate_trial.specs.Stops.{SiteStops, none, never};
 ghost use Rattle.fate_trial.specs.Towers.{tower_reason, level_words};
 
 use crate::layout::Slot;
@@ -52,7 +52,7 @@ fn is_spelled(words: &StepWords, level: Level) -> bool
 /// Whether a step may be taken this way.
 fn readiness<H: Host>(env: &Site<H>, going: Going) -> Result<Ready, Stop>
     ensures ready { IfOk result (λ ready. ready ≡ ready_of (tower_reason going env.now.nodes.nodes)) }
-    ensures stops { IfErr result (λ stop. SiteStops H.state stop env.now env.now) }
+    ensures stops { IfErr result (λ stop. SiteStops H.state none never stop env.now env.now) }
 {
     env.going()?;
     match going {
@@ -68,6 +68,7 @@ fn readiness<H: Host>(env: &Site<H>, going: Going) -> Result<Ready, Stop>
 
 impl<H: Host> Step<Site<H>> for Level {
     ghost use Rattle.fate_trial.specs.Site.{GoesOn, IsDead};
+    ghost use Rattle.fate_trial.specs.Stops.{StepStops};
     ghost use Rattle.fate_trial.specs.Towers.{tower_meaning, level_words, LevelSuits, tower_reason, tower_answer};
     ghost use Rattle.fate_trial.specs.TowerLaws.{tower_lawful, same_reason, same_answer, same_able};
 
@@ -93,7 +94,7 @@ impl<H: Host> Step<Site<H>> for Level {
 
     ghost undoes = { λ step tid old new. GoesOn H.state new };
 
-    ghost stops = { SiteStops H.state };
+    ghost stops = { StepStops H.state };
 
     ghost dead = { IsDead H.state };
 

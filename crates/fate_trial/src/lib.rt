@@ -8,6 +8,7 @@ mod laws;
 mod layout;
 mod levels;
 mod site;
+mod stack_ops;
 mod stacks;
 #[cfg(test)]
 mod tests;
@@ -20,5 +21,5 @@ pub use layout::Slot;
 pub use levels::Level;
 pub use site::{Halt, Site};
 pub use stacks::NodeStacks;
-pub use turns::{finish, go};
+pub use turns::go;
 pub use works::put;

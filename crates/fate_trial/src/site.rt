@@ -1,10 +1,19 @@
 // Nodes over a host.
-ghost use Rattle.std.specs.Prelude.{◌≡◌, None, Some, Err, IfOk, IfErr, OnOk};
+ghost use Rattle.std.specs.Prelude.{◌≡◌, None, Some, Ok, Err, IfOk, IfErr, OnOk};
 ghost use Rattle.std.specs.Option.{option_copied};
+ghost use Rattle.std.specs.FinMap as map;
+ghost use Rattle.host_model.specs.Calls.{Looks};
+ghost use Rattle.host_model.specs.Alters.{Alters};
 ghost use Rattle.host_model.specs.declared.fault.Stop.{Stop};
+ghost use Rattle.host_model.specs.declared.fault.Stop.TheVariants.{Full};
+ghost use Rattle.node_store.specs.Nodes.{multi_applied};
+ghost use Rattle.node_store.specs.Image.{IsNodeFile};
+ghost use Rattle.node_store.specs.Steps.{MayStart, Starts};
+ghost use Rattle.node_store.specs.Answers.{IsFull};
 ghost use Rattle.fate_runner.specs.Works.{Acts};
-ghost use Rattle.fate_trial.specs.Layout.{Applies, slot_path, value_at};
-ghost use Rattle.fate_trial.specs.Site.{GoesOn, IsDead, SiteStops, MayMake, Makes, stop_of};
+ghost use Rattle.fate_trial.specs.Layout.{nodes_name, Applies, slot_path, value_at};
+ghost use Rattle.fate_trial.specs.Site.{GoesOn, IsDead, MayMake, Makes, stop_of};
+ghost use Rattle.fate_trial.specs.Stops.{CreateStop, OpenStop, Fails, StopsSo};
 
 use crate::layout::{Slot, nodes_name, slot_path};
 use host_model::{Host, HostFault, Stop};
@@ -50,8 +59,14 @@ fn stop_of(halt: Halt) -> Stop
 
 impl<H: Host + Drop> Site<H> {
     /// A site over a new store, without nodes, in place of any that is there. Three calls of the host.
+    ///
+    /// Stops at a fault of the disk or the host's memory, which the host that is let go has counted, or for want of memory.
     pub fn create(alloc: Global, mut host: H) -> Result<Site<H>, Stop>
-        ensures { IfOk result (λ site. GoesOn H.state site) }
+        ensures live { IfOk result (λ site. GoesOn H.state site) }
+        ensures runs { IfOk result (λ site. site.stopped ≡ None) }
+        ensures made { IfOk result (λ site. site.nodes.nodes ≡ map.empty) }
+        ensures alters { IfOk result (λ site. Alters (IsNodeFile nodes_name) (MayStart nodes_name) (Starts nodes_name) result (H.state host) (H.state site.host)) }
+        ensures stops { IfErr result CreateStop }
     {
         let name = nodes_name(alloc)?;
         let nodes = NodeStore::create(alloc, &mut host, &name)?;
@@ -64,8 +79,14 @@ impl<H: Host + Drop> Site<H> {
     }
 
     /// A site over the store that is there, as a crash may have left it. Two calls of the host.
+    ///
+    /// `Damaged` names the nodes, and comes only where the host has none. Else it stops at a fault of the disk or the host's
+    /// memory, which the host that is let go has counted, or for want of memory.
     pub fn open(alloc: Global, mut host: H) -> Result<Site<H>, Stop>
-        ensures { IfOk result (λ site. GoesOn H.state site) }
+        ensures live { IfOk result (λ site. GoesOn H.state site) }
+        ensures runs { IfOk result (λ site. site.stopped ≡ None) }
+        ensures looks { IfOk result (λ site. Looks (H.state host) (H.state site.host)) }
+        ensures stops { IfErr result (OpenStop (H.state host)) }
     {
         let name = nodes_name(alloc)?;
         let nodes = NodeStore::open(alloc, &mut host, &name)?;
@@ -111,13 +132,18 @@ impl<H: Host> Site<H> {
     }
 
     /// Makes changes that apply, all or none, lasting on return. Two syncs.
+    ///
+    /// `Full` comes where the store has no room for them, and want of memory may come in its place.
     pub fn change(&mut self, ops: &[NodeOp]) -> Result<(), Stop>
         requires live { GoesOn H.state self.old }
         requires runs { self.old.stopped ≡ None }
         requires applies { Applies ops.now self.old.nodes.nodes }
         ensures acts { Acts result (MayMake ops.now) (Makes ops.now) (H.state self.old.host) (H.state self.new.host) }
+        ensures made { OnOk result (multi_applied ops.now self.old.nodes.nodes ≡ Ok self.new.nodes.nodes) }
         ensures live { GoesOn H.state self.new }
-        ensures stops { IfErr result (λ stop. SiteStops H.state stop self.old self.new) }
+        ensures goes_on { OnOk result (self.new.stopped ≡ None) }
+        ensures stops { IfErr result (λ stop. Fails H.state ops.now stop self.old self.new) }
+        ensures full { IsFull ops.now self.old.nodes → StopsSo Full result }
     {
         match self.nodes.multi(&mut self.host, ops) {
             Ok(()) => Ok(()),

@@ -1,174 +1,105 @@
 // Stacks of at most two steps, stored as nodes.
-ghost use Rattle.std.specs.Prelude.{◌≡◌, ◌++◌, ◌∷◌, [], None, IfOk, IfSome, OnOk, MatchOption};
+ghost use Rattle.std.specs.Prelude.{◌≡◌, ◌⊎◌, None, IfOk, IfErr, OnOk};
+ghost use Rattle.host_model.specs.State.{picture_now};
+ghost use Rattle.host_model.specs.declared.fault.Stop.{Stop};
+ghost use Rattle.host_model.specs.declared.fault.Stop.TheVariants.{Damaged, Full, NoMemory};
 ghost use Rattle.fate_runner.specs.Book.{pushed, popped, with_status};
-ghost use Rattle.fate_trial.specs.Layout.{slot_path, value_at};
-ghost use Rattle.fate_trial.specs.Stored.{book_of, WritesBook, IsTopWords, IsFree, IsTopSlot, taking, taken_out};
-ghost use Rattle.fate_trial.specs.declared.layout.Slot.TheVariants.{Lower, Upper};
+ghost use Rattle.fate_runner.specs.Works.{Sets, IsTopOf};
+ghost use Rattle.fate_trial.specs.Layout.{nodes_name, slot_path, value_at};
+ghost use Rattle.fate_trial.specs.Site.{GoesOn};
+ghost use Rattle.fate_trial.specs.Stored.{book_of, book_at, Alike, HasNoPlace, IsTopSlot, PushChanges, PopChanges, StatusChanges};
+ghost use Rattle.fate_trial.specs.Stops.{SiteStops, StopsSo, RefusesPush, RefusesPop, RefusesStatus, RefusesTop, none};
+ghost use Rattle.fate_trial.specs.declared.layout.Slot.TheVariants.{Status};
 
-use crate::changes::{creation, deletion, is_there, setting};
-use crate::layout::{Slot, slot_path};
 use crate::site::Site;
-use crate::words::{kind_in, status_in, status_value, step_value, words_of};
+use crate::stack_ops::{kind, pop_ops, push_ops, status, status_ops, top_words};
 use fate_runner::{Cause, Stacks, StepText, StepWords, TxStatus};
 use host_model::{Host, Stop};
-use node_store::NodeOp;
-use row_keys::Octets;
-use std::alloc::AllocError;
 
 /// The statuses and stacks of transactions, as nodes of a site: of at most two steps each.
 #[derive(Clone, Copy, Debug)]
 pub struct NodeStacks;
 
-/// The words of the top step.
-pub(crate) fn top_words<H: Host>(env: &Site<H>, tid: u64) -> Result<Option<StepWords>, AllocError>
-    ensures { IfOk result (λ found. IsTopWords (book_of env.now.nodes.nodes tid).stack found) }
-{
-    if let Some(value) = env.slot(Slot::Upper, tid)? {
-        return Ok(Some(words_of(env.alloc, value)?));
-    }
-    match env.slot(Slot::Lower, tid)? {
-        Some(value) => Ok(Some(words_of(env.alloc, value)?)),
-        None => Ok(None),
-    }
-}
-
-/// The kind of the transaction.
-fn kind<H: Host>(env: &Site<H>, tid: u64) -> Result<Octets, AllocError>
-    ensures { IfOk result (λ kind. kind ≡ (book_of env.now.nodes.nodes tid).kind) }
-{
-    kind_in(env.alloc, env.slot(Slot::Status, tid)?)
-}
-
-/// The status of the transaction.
-pub(crate) fn status<H: Host>(env: &Site<H>, tid: u64) -> Result<Option<TxStatus>, AllocError>
-    ensures { IfOk result (λ status. status ≡ (book_of env.now.nodes.nodes tid).status) }
-{
-    Ok(status_in(env.slot(Slot::Status, tid)?))
-}
-
 /// What is stored isn't of its form.
-fn strange<H: Host>(env: &Site<H>) -> Stop {
+fn strange<H: Host>(env: &Site<H>) -> Stop
+    ensures { (result ≡ Damaged env.now.nodes.name) ⊎ (result ≡ NoMemory) }
+{
     match env.nodes.name().copy(env.alloc) {
         Ok(name) => Stop::Damaged(name),
         Err(_) => Stop::NoMemory,
     }
 }
 
-/// Where a step is pushed, if there is room for one.
-fn free_slot<H: Host>(env: &Site<H>, tid: u64) -> Result<Option<Slot>, AllocError>
-    ensures { IfOk result (λ found. IsFree env.now.nodes.nodes tid found) }
+/// The top step, or none where there is none. `Damaged` comes exactly where what is stored is no step of the kind.
+fn top_step<H: Host, S: StepText>(env: &Site<H>, tid: u64) -> Result<Option<S>, Stop>
+    requires live { GoesOn H.state env.now }
+    requires runs { env.now.stopped ≡ None }
+    ensures is { IfOk result (λ found. IsTopOf S.text S.text_suits (book_of env.now.nodes.nodes tid) found) }
+    ensures stops { IfErr result (λ stop. SiteStops H.state none (RefusesTop S.text S.text_suits (book_of env.now.nodes.nodes tid)) stop env.now env.now) }
 {
-    if is_there(env, Slot::Upper, tid)? {
-        return Ok(None);
-    }
-    if is_there(env, Slot::Lower, tid)? {
-        return Ok(Some(Slot::Upper));
-    }
-    Ok(Some(Slot::Lower))
-}
-
-/// Where the top step is, if there is one.
-fn top_slot<H: Host>(env: &Site<H>, tid: u64) -> Result<Option<Slot>, AllocError>
-    ensures { IfOk result (λ found. IsTopSlot env.now.nodes.nodes tid found) }
-{
-    if is_there(env, Slot::Upper, tid)? {
-        return Ok(Some(Slot::Upper));
-    }
-    if is_there(env, Slot::Lower, tid)? {
-        return Ok(Some(Slot::Lower));
-    }
-    Ok(None)
-}
-
-/// The changes that push a step, or none where there is no room for it.
-fn push_ops<H: Host>(
-    env: &Site<H>,
-    tid: u64,
-    words: &StepWords,
-) -> Result<Option<Vec<NodeOp>>, AllocError>
-    ensures { IfOk result (λ found. IfSome found (λ ops. WritesBook tid env.now.nodes.nodes ops.items (pushed words.now (book_of env.now.nodes.nodes tid)))) }
-{
-    let Some(value) = step_value(env.alloc, words)? else {
+    let Some(words) = top_words(env, tid)? else {
         return Ok(None);
     };
-    let Some(slot) = free_slot(env, tid)? else {
-        return Ok(None);
-    };
-    let ops = creation(env, slot, tid, value)?;
-    Ok(Some(ops))
-}
-
-/// The changes that pop a step, or none where there is none.
-fn pop_ops<H: Host>(env: &Site<H>, tid: u64) -> Result<Option<Vec<NodeOp>>, AllocError>
-    ensures { IfOk result (λ found. IfSome found (λ ops. WritesBook tid env.now.nodes.nodes ops.items (popped (book_of env.now.nodes.nodes tid)))) }
-{
-    let Some(slot) = top_slot(env, tid)? else {
-        return Ok(None);
-    };
-    let ops = deletion(env, slot, tid)?;
-    Ok(Some(ops))
-}
-
-/// Adds the change that takes a slot's node out, if it is there.
-fn take_out<H: Host>(
-    env: &Site<H>,
-    slot: Slot,
-    tid: u64,
-    ops: &mut Vec<NodeOp>,
-) -> Result<(), AllocError>
-    ensures { OnOk result (ops.new.items ≡ ops.old.items ++ taking slot tid (value_at env.now.nodes.nodes (slot_path slot tid))) }
-{
-    if env.slot(slot, tid)?.is_some() {
-        let path = slot_path(env.alloc, slot, tid)?;
-        ops.push(NodeOp::Delete {
-            path,
-            version: None,
-        })?;
-    }
-    Ok(())
-}
-
-/// Adds the changes that take the steps out, where a transaction succeeds.
-fn take_steps_out<H: Host>(
-    env: &Site<H>,
-    tid: u64,
-    status: TxStatus,
-    ops: &mut Vec<NodeOp>,
-) -> Result<(), AllocError>
-    ensures { OnOk result (ops.new.items ≡ ops.old.items ++ taken_out status (taking Upper tid (value_at env.now.nodes.nodes (slot_path Upper tid)) ++ taking Lower tid (value_at env.now.nodes.nodes (slot_path Lower tid)))) }
-{
-    match status {
-        TxStatus::Successful => {
-            take_out(env, Slot::Upper, tid, ops)?;
-            take_out(env, Slot::Lower, tid, ops)
-        }
-        TxStatus::Submitted => Ok(()),
-        TxStatus::InProgress => Ok(()),
-        TxStatus::FailedInProgress => Ok(()),
-        TxStatus::Failed => Ok(()),
+    let kind = kind(env, tid)?;
+    match S::read_text(env.alloc, &kind, &words)? {
+        Some(step) => Ok(Some(step)),
+        None => Err(strange(env)),
     }
 }
 
-/// The changes that set a status, or none where there is no such transaction.
-fn status_ops<H: Host>(
-    env: &Site<H>,
+/// Pushes a step. `Full` comes where there is no place for it, or the store has no room; want of memory may come in its place.
+fn push_words<H: Host>(env: &mut Site<H>, tid: u64, words: &StepWords) -> Result<(), Stop>
+    requires live { GoesOn H.state env.old }
+    requires runs { env.old.stopped ≡ None }
+    ensures sets { Sets result book_at Alike tid (pushed words.now (book_at (picture_now (H.state env.old.host)) tid)) (H.state env.old.host) (H.state env.new.host) }
+    ensures live { GoesOn H.state env.new }
+    ensures stops { IfErr result (λ stop. SiteStops H.state (PushChanges env.old.nodes.nodes tid words.now) (RefusesPush env.old.nodes.nodes tid words.now) stop env.old env.new) }
+    ensures full { HasNoPlace env.old.nodes.nodes tid words.now → StopsSo Full result }
+{
+    match push_ops(env, tid, words)? {
+        Some(ops) => env.change(&ops),
+        None => Err(Stop::Full),
+    }
+}
+
+/// Pops the top step. `Damaged` comes where there is none, and `Full` where the store has no room; want of memory may come in their place.
+fn pop_step<H: Host>(env: &mut Site<H>, tid: u64) -> Result<(), Stop>
+    requires live { GoesOn H.state env.old }
+    requires runs { env.old.stopped ≡ None }
+    ensures sets { Sets result book_at Alike tid (popped (book_at (picture_now (H.state env.old.host)) tid)) (H.state env.old.host) (H.state env.new.host) }
+    ensures live { GoesOn H.state env.new }
+    ensures stops { IfErr result (λ stop. SiteStops H.state (PopChanges env.old.nodes.nodes tid) (RefusesPop env.old.nodes.nodes tid) stop env.old env.new) }
+    ensures damaged { IsTopSlot env.old.nodes.nodes tid None → StopsSo (Damaged nodes_name) result }
+{
+    match pop_ops(env, tid)? {
+        Some(ops) => env.change(&ops),
+        None => Err(strange(env)),
+    }
+}
+
+/// Sets a status. `Damaged` comes where there is no such transaction, and `Full` where the store has no room; want of memory may come in their place.
+fn change_status<H: Host>(
+    env: &mut Site<H>,
     tid: u64,
     status: TxStatus,
     cause: Option<Cause>,
-) -> Result<Option<Vec<NodeOp>>, AllocError>
-    ensures { IfOk result (λ found. IfSome found (λ ops. WritesBook tid env.now.nodes.nodes ops.items (with_status status cause (book_of env.now.nodes.nodes tid)))) }
+) -> Result<(), Stop>
+    requires live { GoesOn H.state env.old }
+    requires runs { env.old.stopped ≡ None }
+    ensures sets { Sets result book_at Alike tid (with_status status cause (book_at (picture_now (H.state env.old.host)) tid)) (H.state env.old.host) (H.state env.new.host) }
+    ensures live { GoesOn H.state env.new }
+    ensures stops { IfErr result (λ stop. SiteStops H.state (StatusChanges env.old.nodes.nodes tid status cause) (RefusesStatus env.old.nodes.nodes tid) stop env.old env.new) }
+    ensures damaged { value_at env.old.nodes.nodes (slot_path Status tid) ≡ None → StopsSo (Damaged nodes_name) result }
 {
-    let Some(old) = env.slot(Slot::Status, tid)? else {
-        return Ok(None);
-    };
-    let value = status_value(env.alloc, status, cause, old)?;
-    let mut ops = setting(env, Slot::Status, tid, value)?;
-    take_steps_out(env, tid, status, &mut ops)?;
-    Ok(Some(ops))
+    match status_ops(env, tid, status, cause)? {
+        Some(ops) => env.change(&ops),
+        None => Err(strange(env)),
+    }
 }
 
 impl<H: Host, S: StepText> Stacks<Site<H>, S> for NodeStacks {
-    ghost use Rattle.fate_trial.specs.Site.{GoesOn, IsBeside, IsDead, SiteStops};
+    ghost use Rattle.fate_trial.specs.Site.{GoesOn, IsBeside, IsDead};
+    ghost use Rattle.fate_trial.specs.Stops.{StackStops};
     ghost use Rattle.fate_trial.specs.Stored.{book_of, book_at, Alike};
 
     ghost state = { λ env. H.state env.host };
@@ -189,7 +120,7 @@ impl<H: Host, S: StepText> Stacks<Site<H>, S> for NodeStacks {
 
     ghost dead = { IsDead H.state };
 
-    ghost stops = { SiteStops H.state };
+    ghost stops = { StackStops H.state S.text S.text_suits };
 
     fn status(&mut self, tid: u64, env: &mut Site<H>) -> Result<Option<TxStatus>, Stop> {
         env.going()?;
@@ -198,31 +129,18 @@ impl<H: Host, S: StepText> Stacks<Site<H>, S> for NodeStacks {
 
     fn top(&mut self, tid: u64, env: &mut Site<H>) -> Result<Option<S>, Stop> {
         env.going()?;
-        let Some(words) = top_words(env, tid)? else {
-            return Ok(None);
-        };
-        let kind = kind(env, tid)?;
-        match S::read_text(env.alloc, &kind, &words)? {
-            Some(step) => Ok(Some(step)),
-            None => Err(strange(env)),
-        }
+        top_step(env, tid)
     }
 
     fn push(&mut self, tid: u64, step: &S, env: &mut Site<H>) -> Result<(), Stop> {
         env.going()?;
         let words = step.write_text(env.alloc)?;
-        match push_ops(env, tid, &words)? {
-            Some(ops) => env.change(&ops),
-            None => Err(Stop::Full),
-        }
+        push_words(env, tid, &words)
     }
 
     fn pop(&mut self, tid: u64, env: &mut Site<H>) -> Result<(), Stop> {
         env.going()?;
-        match pop_ops(env, tid)? {
-            Some(ops) => env.change(&ops),
-            None => Err(strange(env)),
-        }
+        pop_step(env, tid)
     }
 
     fn set_status(
@@ -233,9 +151,6 @@ impl<H: Host, S: StepText> Stacks<Site<H>, S> for NodeStacks {
         env: &mut Site<H>,
     ) -> Result<(), Stop> {
         env.going()?;
-        match status_ops(env, tid, status, cause)? {
-            Some(ops) => env.change(&ops),
-            None => Err(strange(env)),
-        }
+        change_status(env, tid, status, cause)
     }
 }

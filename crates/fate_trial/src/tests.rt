@@ -1,11 +1,11 @@
 // Towers over a host in memory, with a stop within each of its calls.
-ghost use Rattle.std.specs.Prelude.{IfOk};
+ghost use Rattle.std.specs.Prelude.{IfOk, OnOk};
 ghost use Rattle.memory_host.specs.Memory.{memory_state};
 ghost use Rattle.fate_trial.specs.Site.{GoesOn};
 
 use crate::layout::{Slot, path, slot_path};
 use crate::site::Site;
-use crate::turns::finish;
+use crate::turns::go;
 use crate::works::put;
 use host_model::Stop;
 use memory_host::{MemoryHost, Pick};
@@ -33,9 +33,10 @@ fn submitted(alloc: Global, stop: Option<u64>, is_banned: bool) -> Result<Site<M
     let mut site = Site::create(alloc, MemoryHost::new(alloc, b"", &[], stop)?)?;
     put(&mut site, slot_path(alloc, Slot::Lower, 1)?, b"\x05Raise")?;
     put(&mut site, slot_path(alloc, Slot::Status, 1)?, b"S-tower")?;
-    if is_banned {
-        put(&mut site, path(alloc, b"/ban")?, b"-")?;
+    if !is_banned {
+        return Ok(site);
     }
+    put(&mut site, path(alloc, b"/ban")?, b"-")?;
     Ok(site)
 }
 
@@ -58,6 +59,19 @@ fn has_nodes(site: &Site<MemoryHost>, expected: &[Row]) -> Result<bool, Fail> {
         }
     }
     Ok(true)
+}
+
+// Takes turns of a tower until it is finished, or has taken fifty.
+fn finish(tid: u64, site: &mut Site<MemoryHost>) -> Result<(), Stop>
+    requires { GoesOn memory_state site.old }
+    ensures { OnOk result (GoesOn memory_state site.new) }
+{
+    for _ in 0..50 {
+        if !go(tid, site)? {
+            return Ok(());
+        }
+    }
+    Ok(())
 }
 
 // Whether a tower that stops within this call of the host, and goes on after the crash, ends with these nodes.

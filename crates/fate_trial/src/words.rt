@@ -1,5 +1,5 @@
 // How nodes spell a status and a step.
-ghost use Rattle.std.specs.Prelude.{◌≡◌, ◌∷◌, [], drop, take, slice_index_or, Some, IfOk, IfSome};
+ghost use Rattle.std.specs.Prelude.{◌≡◌, ◌≤◌, ◌<◌, ◌∷◌, [], length, drop, take, slice_index_or, Some, IfOk, MatchOption};
 ghost use Rattle.std.specs.Option.{option_copied};
 ghost use Rattle.fate_trial.specs.Stored.{status_letter, letter_status, cause_letter, letter_after, status_in, kind_in, status_value, step_value, words_in};
 
@@ -110,9 +110,9 @@ pub fn status_value(
     Ok(Octets::from_vec(value))
 }
 
-/// The value that spells a step, or none where its name has 256 bytes or more.
+/// The value that spells a step, or none exactly where its name has 256 bytes or more.
 pub fn step_value(alloc: Global, words: &StepWords) -> Result<Option<Octets>, AllocError>
-    ensures { IfOk result (λ found. IfSome found (λ value. value ≡ step_value words.now)) }
+    ensures { IfOk result (λ found. MatchOption found (256 ≤ length words.now.name) (λ value. (length words.now.name < 256) × (value ≡ step_value words.now))) }
 {
     let Ok(size) = u8::try_from(words.name.as_bytes().len()) else {
         return Ok(None);

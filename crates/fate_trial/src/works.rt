@@ -1,11 +1,13 @@
 // The work of the steps of a tower.
-ghost use Rattle.std.specs.Prelude.{◌≡◌, ◌∷◌, [], true, false, None, Err, IfOk, IfErr, OnOk};
+ghost use Rattle.std.specs.Prelude.{◌≡◌, ◌∷◌, [], true, false, None, Ok, Err, IfOk, IfErr, OnOk};
 ghost use Rattle.host_model.specs.declared.fault.Stop.{Stop};
 ghost use Rattle.row_keys.specs.Forms.{IsPath};
 ghost use Rattle.fate_runner.specs.Works.{Acts};
-ghost use Rattle.fate_trial.specs.Layout.{value_at};
-ghost use Rattle.fate_trial.specs.Site.{GoesOn, IsDead, SiteStops};
-ghost use Rattle.fate_trial.specs.Towers.{IsPart, MaySet, Sets, is_refused};
+ghost use Rattle.node_store.specs.Nodes.{multi_applied};
+ghost use Rattle.fate_trial.specs.Layout.{value_at, putting};
+ghost use Rattle.fate_trial.specs.Site.{GoesOn, IsDead};
+ghost use Rattle.fate_trial.specs.Stops.{SiteStops, PutChanges, none, never};
+ghost use Rattle.fate_trial.specs.Towers.{IsPart, MaySet, Sets, MakeChanges, TakeChanges, is_refused};
 ghost use Rattle.std.specs.Option.{is_some};
 
 use crate::changes::{creation, creation_at, deletion, is_there};
@@ -33,8 +35,8 @@ pub fn make<H: Host>(env: &mut Site<H>, part: Slot, tid: u64) -> Result<(), Stop
     requires part { IsPart part }
     ensures acts { Acts result (MaySet part tid true) (Sets part tid true) (H.state env.old.host) (H.state env.new.host) }
     ensures live { GoesOn H.state env.new }
-    ensures stops { IfErr result (λ stop. SiteStops H.state stop env.old env.new) }
-    ensures dead { (stop : Stop) → IsDead H.state env.old stop → env.new ≡ env.old }
+    ensures stops { IfErr result (λ stop. SiteStops H.state (MakeChanges env.old.nodes.nodes part tid) never stop env.old env.new) }
+    ensures dead { (stop : Stop) → IsDead H.state env.old stop → (result ≡ Err stop) × (env.new ≡ env.old) }
 {
     env.going()?;
     if is_there(env, part, tid)? {
@@ -51,8 +53,8 @@ pub fn take<H: Host>(env: &mut Site<H>, part: Slot, tid: u64) -> Result<(), Stop
     requires part { IsPart part }
     ensures acts { Acts result (MaySet part tid false) (Sets part tid false) (H.state env.old.host) (H.state env.new.host) }
     ensures live { GoesOn H.state env.new }
-    ensures stops { IfErr result (λ stop. SiteStops H.state stop env.old env.new) }
-    ensures dead { (stop : Stop) → IsDead H.state env.old stop → env.new ≡ env.old }
+    ensures stops { IfErr result (λ stop. SiteStops H.state (TakeChanges env.old.nodes.nodes part tid) never stop env.old env.new) }
+    ensures dead { (stop : Stop) → IsDead H.state env.old stop → (result ≡ Err stop) × (env.new ≡ env.old) }
 {
     env.going()?;
     if is_there(env, part, tid)? {
@@ -66,7 +68,7 @@ pub fn take<H: Host>(env: &mut Site<H>, part: Slot, tid: u64) -> Result<(), Stop
 pub fn is_refused<H: Host>(env: &Site<H>, tid: u64) -> Result<bool, Stop>
     ensures ok { IfOk result (λ refused. refused ≡ is_refused tid env.now.nodes.nodes) }
     ensures runs { OnOk result (env.now.stopped ≡ None) }
-    ensures stops { IfErr result (λ stop. SiteStops H.state stop env.now env.now) }
+    ensures stops { IfErr result (λ stop. SiteStops H.state none never stop env.now env.now) }
 {
     env.going()?;
     if is_there(env, Slot::Roof, tid)? {
@@ -78,7 +80,10 @@ pub fn is_refused<H: Host>(env: &Site<H>, tid: u64) -> Result<bool, Stop>
 /// Gives a path a node, where it has none. A crash inside leaves it made or not.
 pub fn put<H: Host>(env: &mut Site<H>, path: Path, value: &[u8]) -> Result<(), Stop>
     requires { GoesOn H.state env.old }
-    ensures { GoesOn H.state env.new }
+    ensures made { OnOk result (multi_applied (putting path value.now (is_some (value_at env.old.nodes.nodes path))) env.old.nodes.nodes ≡ Ok env.new.nodes.nodes) }
+    ensures live { GoesOn H.state env.new }
+    ensures stops { IfErr result (λ stop. SiteStops H.state (PutChanges env.old.nodes.nodes path value.now) never stop env.old env.new) }
+    ensures dead { (stop : Stop) → IsDead H.state env.old stop → (result ≡ Err stop) × (env.new ≡ env.old) }
 {
     env.going()?;
     if has_node(env, path.as_bytes())? {

@@ -1,12 +1,9 @@
-use Rattle.std.proofs.Common.{◌≡◌, ◌<◌, ◌^◌, sym, ap, subst, IfSome, arith}
-use Rattle.fate_runner.specs.Book.{Book, pushed, popped, with_status}
-use Rattle.fate_trial.specs.Stored.{book_of, WritesBook}
-use Rattle.fate_trial.proofs.BookLemmas.{site_sets}
+use Rattle.std.proofs.lemmas.Result.{IfErr-weaker}
+use Rattle.fate_trial.specs.Stored.{PopChanges}
+use Rattle.fate_trial.specs.Stops.{SiteStops, StackStops, At_pop, RefusesPop}
 use Rattle.fate_trial.proofs.stacks.NodeStacksStacksSite.pop.Goals as goal
 
-pub returns-in-Some-clause-sets : goal.returns-in-Some-clause-sets
-returns-in-Some-clause-sets g c =
-    let small : c.args.tid < 2 ^ 64 = omega arith in
-    let move : Book → Book = popped in
-    let writes : WritesBook c.args.tid c.args.env.now.nodes.nodes c.in-Some.ops.items (move (book_of c.args.env.now.nodes.nodes c.args.tid)) = subst (λ o. IfSome o (λ ops. WritesBook c.args.tid c.args.env.now.nodes.nodes ops.items (popped (book_of c.args.env.now.nodes.nodes c.args.tid)))) c.in-Some.is c.in_ok-ops.ensures in
-    site_sets c.args.tid small g.H.Host.state g.met.H.Host.sound move c.args.env.now c.change.new.self.host c.in-Some.ops.items c.deref.result.now c.deref.ensures.value c.requires.live c.in_ok-going.ensures.runs writes c.change.ensures.acts
+pub returns-clause-stops : goal.returns-clause-stops
+returns-clause-stops g c =
+    IfErr-weaker c.pop_step.result (λ stop. SiteStops g.H.Host.state (PopChanges c.args.env.now.nodes.nodes c.args.tid) (RefusesPop c.args.env.now.nodes.nodes c.args.tid) stop c.args.env.now c.pop_step.new.env)
+    (λ stop. StackStops g.H.Host.state g.S.StepText.text g.S.StepText.text_suits stop c.args.env.now c.pop_step.new.env) (λ stop why. At_pop c.args.tid why) c.pop_step.ensures.stops

@@ -1,16 +1,17 @@
-use Rattle.std.proofs.Common.{◌∙◌, sym, ap, subst, None, Some, rules}
-use Rattle.fate_runner.specs.Book.{Book}
+use Rattle.std.proofs.Common.{sym, subst}
+use Rattle.std.specs.Prelude.{IfOk}
 use Rattle.fate_runner.specs.Works.{IsTopOf}
 use Rattle.fate_trial.specs.Stored.{book_of}
+use Rattle.std.proofs.lemmas.Result.{IfErr-weaker}
+use Rattle.fate_trial.specs.Stops.{SiteStops, StackStops, At_top, RefusesTop, none}
 use Rattle.fate_trial.proofs.SiteLemmas.{site_nodes}
 use Rattle.fate_trial.proofs.stacks.NodeStacksStacksSite.top.Goals as goal
 
-pub returns-in_default-clause-is : goal.returns-in_default-clause-is
-returns-in_default-clause-is g c =
-    λ f. let shown : IsTopOf g.S.StepText.text g.S.StepText.text_suits (book_of c.args.env.now.nodes.nodes c.args.tid) None = search rules in
-    subst (λ n. IsTopOf g.S.StepText.text g.S.StepText.text_suits (book_of n c.args.tid) None) (sym (site_nodes g.H.Host.state c.args.env.now c.requires c.in_ok-going.ensures.runs f)) shown
+pub returns-clause-is : goal.returns-clause-is
+returns-clause-is g c =
+    λ f. subst (λ n. IfOk c.top_step.result (λ found. IsTopOf g.S.StepText.text g.S.StepText.text_suits (book_of n c.args.tid) found)) (sym (site_nodes g.H.Host.state c.args.env.now c.requires c.in_ok-going.ensures.runs f)) c.top_step.ensures.is
 
-pub returns-in-Some-2-clause-is : goal.returns-in-Some-2-clause-is
-returns-in-Some-2-clause-is g c =
-    λ f. let shown : IsTopOf g.S.StepText.text g.S.StepText.text_suits (book_of c.args.env.now.nodes.nodes c.args.tid) (Some c.in-Some-2.step) = search rules in
-    subst (λ n. IsTopOf g.S.StepText.text g.S.StepText.text_suits (book_of n c.args.tid) (Some c.in-Some-2.step)) (sym (site_nodes g.H.Host.state c.args.env.now c.requires c.in_ok-going.ensures.runs f)) shown
+pub returns-clause-stops : goal.returns-clause-stops
+returns-clause-stops g c =
+    IfErr-weaker c.top_step.result (λ stop. SiteStops g.H.Host.state none (RefusesTop g.S.StepText.text g.S.StepText.text_suits (book_of c.args.env.now.nodes.nodes c.args.tid)) stop c.args.env.now c.args.env.now)
+    (λ stop. StackStops g.H.Host.state g.S.StepText.text g.S.StepText.text_suits stop c.args.env.now c.args.env.now) (λ stop why. At_top c.args.tid why) c.top_step.ensures.stops

@@ -1,7 +1,7 @@
 use Rattle.std.proofs.Common.{◌≡◌, ◌<◌, ◌^◌, IfOk, subst, arith}
 use Rattle.std.specs.Option.{option_copied}
 use Rattle.fate_trial.proofs.TopLemmas.{kind_at}
-use Rattle.fate_trial.proofs.stacks.kind.Goals as goal
+use Rattle.fate_trial.proofs.stack_ops.kind.Goals as goal
 
 pub returns : goal.returns
 returns g c =

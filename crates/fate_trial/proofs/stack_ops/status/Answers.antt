@@ -1,7 +1,7 @@
-use Rattle.std.proofs.Common.{◌≡◌, ◌<◌, ◌^◌, ◌∙◌, arith}
+use Rattle.std.proofs.Common.{◌<◌, ◌^◌, ◌∙◌, arith}
 use Rattle.std.specs.Option.{option_copied}
 use Rattle.fate_trial.proofs.TopLemmas.{status_at}
-use Rattle.fate_trial.proofs.stacks.status.Goals as goal
+use Rattle.fate_trial.proofs.stack_ops.status.Goals as goal
 
 pub returns : goal.returns
 returns g c =

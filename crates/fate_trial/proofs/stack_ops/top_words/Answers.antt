@@ -1,7 +1,7 @@
-use Rattle.std.proofs.Common.{◌≡◌, ◌<◌, ◌^◌, ◌∙◌, sym, ap, arith}
+use Rattle.std.proofs.Common.{◌<◌, ◌^◌, ◌∙◌, sym, ap, arith}
 use Rattle.std.specs.Option.{option_copied}
 use Rattle.fate_trial.proofs.TopLemmas.{top_upper, top_lower, top_none}
-use Rattle.fate_trial.proofs.stacks.top_words.Goals as goal
+use Rattle.fate_trial.proofs.stack_ops.top_words.Goals as goal
 
 pub returns-in-Some : goal.returns-in-Some
 returns-in-Some g c =
