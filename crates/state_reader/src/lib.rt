@@ -20,7 +20,9 @@ mod tests;
 
 pub use columns::row_columns;
 pub use level::{BadRow, LevelFault, LevelKind, LevelRows, LoadFlag};
+pub use marks::{read_candidate, read_flag};
 pub use name_map::NameMap;
 pub use reading_level::read_level;
+pub use records::{is_of_kind, read_record, tablet_at};
 pub use still::{Mutations, StillGround};
 pub use tablet_cells::content;

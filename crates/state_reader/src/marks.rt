@@ -39,8 +39,9 @@ fn lone_value(columns: &[Update]) -> Option<&Octets>
     only.value.as_ref()
 }
 
-/// The path of a candidate's row, or none where the row is none of a candidate.
-fn read_candidate(alloc: Global, pairs: &[Pair], row: &Row) -> Result<Option<Path>, LevelFault>
+/// The path of a candidate's row, or none where the row is none of a candidate. Each fault but want of memory names the row, whose
+/// columns are those of no candidate. Takes one pass over the pairs, and memory for the columns of the row.
+pub fn read_candidate(alloc: Global, pairs: &[Pair], row: &Row) -> Result<Option<Path>, LevelFault>
     ensures ok { IfOk result (λ found. MatchOption found (IsNoCandidateRow row.now) (IsCandidateIn pairs.now row.now)) }
     ensures err { IfErr result (λ fault. (kind : LevelKind) (cells : List Cell) → IsNewest cells pairs.now → HasPair pairs.now row.now → LevelCause kind cells fault) }
 {
@@ -60,8 +61,9 @@ fn read_candidate(alloc: Global, pairs: &[Pair], row: &Row) -> Result<Option<Pat
     Ok(Some(path))
 }
 
-/// The flag of a flag's row, or none where the row is none of a flag.
-fn read_flag(alloc: Global, pairs: &[Pair], row: &Row) -> Result<Option<LoadFlag>, LevelFault>
+/// The flag of a flag's row, or none where the row is none of a flag. Each fault but want of memory names the row, whose columns are
+/// those of no flag. Takes one pass over the pairs, and memory for the columns of the row.
+pub fn read_flag(alloc: Global, pairs: &[Pair], row: &Row) -> Result<Option<LoadFlag>, LevelFault>
     ensures ok { IfOk result (λ found. MatchOption found (IsNoFlagRow row.now) (IsFlagIn pairs.now row.now)) }
     ensures err { IfErr result (λ fault. (kind : LevelKind) (cells : List Cell) → IsNewest cells pairs.now → HasPair pairs.now row.now → LevelCause kind cells fault) }
 {

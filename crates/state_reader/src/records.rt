@@ -19,8 +19,8 @@ use std::alloc::Global;
 
 const METADATA_TABLE: &[u8] = b"!0";
 
-/// Whether a level of this kind tells of the tablets of the table.
-fn is_of_kind(kind: LevelKind, table: &TableId) -> bool
+/// Whether a level of this kind tells of the tablets of the table. Takes no memory.
+pub fn is_of_kind(kind: LevelKind, table: &TableId) -> bool
     ensures { MatchBool result (IsOfKind kind table.now) (IsOfKind kind table.now → ⊥) }
 {
     let id = table.as_bytes();
@@ -30,8 +30,8 @@ fn is_of_kind(kind: LevelKind, table: &TableId) -> bool
     }
 }
 
-/// The table and the end row of a tablet's row, or none where it is none.
-fn tablet_at(alloc: Global, row: &Row) -> Result<Option<(TableId, Option<Row>)>, LevelFault>
+/// The table and the end row of a tablet's row, or none where it is none. Takes memory for both.
+pub fn tablet_at(alloc: Global, row: &Row) -> Result<Option<(TableId, Option<Row>)>, LevelFault>
     ensures ok { IfOk result (λ found. MatchOption found ((table : List ℕ) (end : Option (List ℕ)) → IsMetadataRow table end row.now → ⊥) (λ parts. IsMetadataRow parts.0 parts.1 row.now)) }
     ensures err { IfErr result (λ fault. fault ≡ NoMemory) }
 {
@@ -49,8 +49,9 @@ fn is_no_memory(fault: SchemaFault) -> bool
     matches!(fault, SchemaFault::NoMemory)
 }
 
-/// The record of a row, of which a level of this kind tells, or none where the row is none of such a tablet.
-fn read_record(
+/// The record of a row, of which a level of this kind tells, or none where the row is none of such a tablet. Each fault but want of
+/// memory names the row, whose columns are those of no record. Takes one pass over the pairs, and memory for the columns of the row.
+pub fn read_record(
     alloc: Global,
     kind: LevelKind,
     pairs: &[Pair],

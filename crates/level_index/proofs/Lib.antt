@@ -1,0 +1,13 @@
+pub mod RowsApart
+pub mod EntryLemmas
+pub mod LevelLemmas
+pub mod RowLemmas
+pub mod MapLemmas
+pub mod WithinLemmas
+pub mod ReadLemmas
+pub mod WriteLemmas
+pub mod LawLemmas
+pub mod MakeLemmas
+pub mod LevelReads
+pub mod ListLemmas
+pub mod ListedLevels
