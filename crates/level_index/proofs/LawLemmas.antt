@@ -1,15 +1,17 @@
 -- Updates make one row at most, and updates that lead to a row make it.
-use Rattle.std.proofs.Common.{◌≡◌, ℕ, Bool, true, false, List, [], ◌∷◌, ◌++◌, codes, Option, Some, None, IfSome, refl, sym, ◌∙◌, ap, subst}
+use Rattle.std.proofs.Common.{◌≡◌, ℕ, Bool, true, false, List, [], ◌∷◌, ◌++◌, codes, Option, Some, None, IfSome, IsTrue, refl, sym, ◌∙◌, ap, subst}
 use Rattle.std.specs.Prelude.{is_some}
 use Rattle.std.specs.Fmt.{decimal}
+use Rattle.std.specs.Option.{option_map_or}
 use Rattle.std.proofs.lemmas.Bool.{false≢true}
 use Rattle.std.proofs.lemmas.Fmt.{decimal_injective}
 use Rattle.std.proofs.lemmas.Option.{none-some, same_Some}
 use Rattle.row_keys.proofs.MetadataRowsLemmas.{one_to_one}
 use Rattle.metadata_schema.specs.declared.mutation.Update.{Update}
 use Rattle.metadata_schema.specs.declared.tablet.TabletRecord.{TabletRecord}
-use Rattle.metadata_schema.specs.Between.{column_after}
-use Rattle.metadata_schema.specs.Columns.{column_at, columns_of}
+use Rattle.metadata_schema.specs.Between.{LeadsBetween, column_after}
+use Rattle.metadata_schema.specs.Bytes.{is_rising}
+use Rattle.metadata_schema.specs.Columns.{update_cmp, update_at, column_at, columns_of}
 use Rattle.metadata_schema.proofs.AcceptedLemmas.{prev_there}
 use Rattle.metadata_schema.proofs.LawsLemmas.{lead_to, parted_once}
 use Rattle.metadata_schema.proofs.OneToOne.{same_columns}
@@ -24,7 +26,7 @@ use Rattle.state_reader.specs.declared.level.LevelKind.{LevelKind}
 use Rattle.state_reader.specs.LevelRows.{IsOfKind}
 use Rattle.level_index.specs.Entries.{LevelMap, level_of}
 use Rattle.level_index.specs.Value.{PreparedLevel}
-use Rattle.level_index.specs.Writes.{MakesRow, Prepares}
+use Rattle.level_index.specs.Writes.{MakesRow, HaveNoIdle, Prepares}
 use Rattle.level_index.proofs.RowsApart.{tablet_no_candidate, tablet_no_flag, candidate_no_flag, same_candidate, same_flag}
 
 -- ---- the same columns are those of one row
@@ -86,6 +88,25 @@ module _ (kind : LevelKind) (level : Level) (row : List ℕ) (updates : List Upd
 
 pub leads_make : (kind : LevelKind) (level : Level) (write : RowWrite) → LeadsRow (IsOfKind kind) level write → MakesRow (IsOfKind kind) level write.mutation.row write.mutation.updates write.row
 leads_make kind level write leads = record { place = leads.place; gives = lead_to (columns_in level write.row) (columns_to write.row) write.mutation.updates leads.updates; form = leads.form }
+
+-- updates that make the row, in order and none of them idle, lead to it
+pub make_leads : (kind : LevelKind) (level : Level) (row : List ℕ) (updates : List Update) (to : LevelRow) → MakesRow (IsOfKind kind) level row updates to → IsTrue (is_rising update_cmp updates) → HaveNoIdle updates (columns_in level to)
+    → LeadsBetween (columns_in level to) (columns_to to) updates
+make_leads kind level row updates to makes order busy = record {
+  order = order;
+  kept = λ f q same. kept f q (update_at updates f q) refl (makes.gives f q) same;
+  changed = λ f q other. changed f q (update_at updates f q) refl (makes.gives f q) other;
+}
+  where
+    kept : (f q : List ℕ) (o : Option (Option (List ℕ))) → update_at updates f q ≡ o → option_map_or (λ value. value) o (column_at (columns_in level to) f q) ≡ column_at (columns_to to) f q
+        → column_at (columns_in level to) f q ≡ column_at (columns_to to) f q → o ≡ None
+    kept f q None e gives same = refl
+    kept f q (Some value) e gives same = absurd (busy.changes f q value e (gives ∙ sym same))
+
+    changed : (f q : List ℕ) (o : Option (Option (List ℕ))) → update_at updates f q ≡ o → option_map_or (λ value. value) o (column_at (columns_in level to) f q) ≡ column_at (columns_to to) f q
+        → (column_at (columns_in level to) f q ≡ column_at (columns_to to) f q → ⊥) → o ≡ Some (column_at (columns_to to) f q)
+    changed f q None e gives other = absurd (other gives)
+    changed f q (Some value) e gives other = ap Some gives
 
 module _ (index : LevelMap) (write : RowWrite) (prepared : PreparedLevel) (leads : LeadsRow (IsOfKind index.kind) (level_of index) write) (prepares : Prepares index write.mutation.row write.mutation.updates prepared) where
   pub row_written : level_of prepared.after ≡ with_level_row (level_of index) write.row

@@ -5,6 +5,7 @@ pub mod RowLemmas
 pub mod MapLemmas
 pub mod WithinLemmas
 pub mod ReadLemmas
+pub mod StepLemmas
 pub mod WriteLemmas
 pub mod LawLemmas
 pub mod MakeLemmas

@@ -1,8 +1,8 @@
 -- What a row of a level becomes by updates of its columns.
-use Rattle.std.specs.Prelude.{◌≡◌, ℕ, List, ◌++◌, map, Option}
+use Rattle.std.specs.Prelude.{◌≡◌, ◌≢◌, ℕ, List, ◌++◌, map, Option, Some}
 use Rattle.metadata_schema.specs.declared.mutation.Update.{Update}
 use Rattle.metadata_schema.specs.Between.{column_after}
-use Rattle.metadata_schema.specs.Columns.{column_at}
+use Rattle.metadata_schema.specs.Columns.{update_at, column_at}
 use Rattle.cell_merge.specs.declared.cell.Cell.{Cell}
 use Rattle.store_layout.specs.NewStore.{cell_of}
 use Rattle.store_meaning.specs.Levels.{Level}
@@ -55,6 +55,10 @@ EntryCause kind columns row updates NoMemory = Unit {0}
 -- the updates make this row of the level
 abbrev pub MakesRow : (List ℕ → Type 0) → Level → List ℕ → List Update → LevelRow → Type 0
 MakesRow is_of level row updates to = GivesRow is_of (columns_in level to) row updates to
+
+-- each of the updates changes the value of its column
+pub record HaveNoIdle (updates columns : List Update) : Type 0 where
+  pub changes : (family qualifier : List ℕ) (value : Option (List ℕ)) → update_at updates family qualifier ≡ Some value → value ≢ column_at columns family qualifier
 
 -- the entry of the row that the updates make, or none
 pub record MakesEntry (index : LevelMap) (row : List ℕ) (updates : List Update) (entry : Option LevelEntry) : Type 0 where

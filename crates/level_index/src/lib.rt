@@ -18,6 +18,9 @@ mod tests;
 mod writing;
 
 pub use index::LevelIndex;
-pub use laws::{a_row_is_made_once, a_written_index_is_the_level, updates_that_lead_make_the_row};
+pub use laws::{
+    a_row_is_made_once, a_written_index_is_the_level, updates_that_lead_make_the_row,
+    updates_without_idle_ones_lead_to_the_row,
+};
 pub use pending::WriteFault;
 pub use writing::PreparedRow;

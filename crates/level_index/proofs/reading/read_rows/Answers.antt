@@ -3,7 +3,8 @@ use Rattle.std.specs.Prelude.{IfErr}
 use Rattle.std.proofs.lemmas.Result.{IfErr-weaker}
 use Rattle.state_reader.proofs.BadRows.{IsCauseAt}
 use Rattle.level_index.specs.Entries.{LevelMap}
-use Rattle.level_index.proofs.ReadLemmas.{IsReading, begun_new, step_order, step_cause, step_none, step_entry}
+use Rattle.level_index.proofs.ReadLemmas.{IsReading}
+use Rattle.level_index.proofs.StepLemmas.{begun_new, step_order, step_cause, step_none, step_entry}
 use Rattle.level_index.proofs.reading.read_rows.Goals as goal
 
 pub rows-init : goal.rows-init
