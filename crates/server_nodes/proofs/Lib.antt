@@ -5,3 +5,4 @@ mod StartActs
 mod ClearLemmas
 mod KeptStart
 mod KeptImages
+mod KeptGone

@@ -15,5 +15,5 @@ mod starting;
 mod stops;
 
 pub use ending::{clear, end};
-pub use laws::a_server_may_start;
+pub use laws::{a_server_may_start, servers_may_be_taken_out};
 pub use starting::start;
