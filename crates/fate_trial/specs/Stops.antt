@@ -1,7 +1,7 @@
 -- Why calls on a site stop.
 use Rattle.std.specs.Prelude.{◌≡◌, ◌≢◌, ◌⊎◌, ℕ, List, [], ◌∷◌, Option, None, Result, Err, IsTrue}
 use Rattle.host_model.specs.State.{HostState}
-use Rattle.host_model.specs.Calls.{IsOfFiles}
+use Rattle.host_model.specs.Calls.{IsOfFiles, Faulted}
 use Rattle.host_model.specs.declared.fault.Stop.{Stop}
 use Rattle.host_model.specs.declared.fault.Stop.TheVariants.{Host, Damaged, Full, NoMemory}
 use Rattle.node_store.specs.declared.changes.NodeOp.{NodeOp}
@@ -28,19 +28,19 @@ use Rattle.fate_trial.specs.Towers.{IsPart, MakeChanges, TakeChanges, level_word
 abbrev pub StopsSo : {T : Type 0} → Stop → Result T Stop → Type 0
 StopsSo stop result = (result ≡ Err stop) ⊎ (result ≡ Err NoMemory)
 
--- why there is no new site: a fault of a call on files, or want of memory
-abbrev pub CreateStop : Stop → Type 0
-CreateStop (Host fault) = IsOfFiles fault
-CreateStop (Damaged name) = ⊥
-CreateStop Full = ⊥
-CreateStop NoMemory = Unit {0}
+-- why there is no new site: a fault of a call on files, which is counted, or want of memory
+abbrev pub CreateStop : Stop → HostState → HostState → Type 0
+CreateStop (Host fault) old new = IsOfFiles fault × Faulted fault old new
+CreateStop (Damaged name) old new = ⊥
+CreateStop Full old new = ⊥
+CreateStop NoMemory old new = Unit {0}
 
 -- why none is opened: such a fault, want of memory, or the host has no nodes
-abbrev pub OpenStop : HostState → Stop → Type 0
-OpenStop state (Host fault) = IsOfFiles fault
-OpenStop state (Damaged name) = (name ≡ nodes_name) × (IsTrue state.is_faithful → HasNoNodes nodes_name state.files)
-OpenStop state Full = ⊥
-OpenStop state NoMemory = Unit {0}
+abbrev pub OpenStop : Stop → HostState → HostState → Type 0
+OpenStop (Host fault) old new = IsOfFiles fault × Faulted fault old new
+OpenStop (Damaged name) old new = (name ≡ nodes_name) × (IsTrue old.is_faithful → HasNoNodes nodes_name old.files)
+OpenStop Full old new = ⊥
+OpenStop NoMemory old new = Unit {0}
 
 -- no change is made
 abbrev pub none : List NodeOp → Type 0

@@ -57,45 +57,53 @@ fn stop_of(halt: Halt) -> Stop
     }
 }
 
-impl<H: Host + Drop> Site<H> {
+impl<H: Host> Site<H> {
     /// A site over a new store, without nodes, in place of any that is there. Three calls of the host.
     ///
-    /// Stops at a fault of the disk or the host's memory, which the host that is let go has counted, or for want of memory.
-    pub fn create(alloc: Global, mut host: H) -> Result<Site<H>, Stop>
+    /// Stops at a fault of the disk or the host's memory, which is counted, or for want of memory, and hands the host back.
+    pub fn create(alloc: Global, mut host: H) -> Result<Site<H>, (Stop, H)>
         ensures live { IfOk result (λ site. GoesOn H.state site) }
         ensures runs { IfOk result (λ site. site.stopped ≡ None) }
         ensures made { IfOk result (λ site. site.nodes.nodes ≡ map.empty) }
         ensures alters { IfOk result (λ site. Alters (IsNodeFile nodes_name) (MayStart nodes_name) (Starts nodes_name) result (H.state host) (H.state site.host)) }
-        ensures stops { IfErr result CreateStop }
+        ensures stops { IfErr result (λ answer. CreateStop answer.0 (H.state host) (H.state answer.1)) }
     {
-        let name = nodes_name(alloc)?;
-        let nodes = NodeStore::create(alloc, &mut host, &name)?;
-        Ok(Site {
-            alloc,
-            host,
-            nodes,
-            stopped: None,
-        })
+        let Ok(name) = nodes_name(alloc) else {
+            return Err((Stop::NoMemory, host));
+        };
+        match NodeStore::create(alloc, &mut host, &name) {
+            Ok(nodes) => Ok(Site {
+                alloc,
+                host,
+                nodes,
+                stopped: None,
+            }),
+            Err(stop) => Err((stop, host)),
+        }
     }
 
     /// A site over the store that is there, as a crash may have left it. Two calls of the host.
     ///
     /// `Damaged` names the nodes, and comes only where the host has none. Else it stops at a fault of the disk or the host's
-    /// memory, which the host that is let go has counted, or for want of memory.
-    pub fn open(alloc: Global, mut host: H) -> Result<Site<H>, Stop>
+    /// memory, which is counted, or for want of memory. Where it stops it hands the host back.
+    pub fn open(alloc: Global, mut host: H) -> Result<Site<H>, (Stop, H)>
         ensures live { IfOk result (λ site. GoesOn H.state site) }
         ensures runs { IfOk result (λ site. site.stopped ≡ None) }
         ensures looks { IfOk result (λ site. Looks (H.state host) (H.state site.host)) }
-        ensures stops { IfErr result (OpenStop (H.state host)) }
+        ensures stops { IfErr result (λ answer. OpenStop answer.0 (H.state host) (H.state answer.1)) }
     {
-        let name = nodes_name(alloc)?;
-        let nodes = NodeStore::open(alloc, &mut host, &name)?;
-        Ok(Site {
-            alloc,
-            host,
-            nodes,
-            stopped: None,
-        })
+        let Ok(name) = nodes_name(alloc) else {
+            return Err((Stop::NoMemory, host));
+        };
+        match NodeStore::open(alloc, &mut host, &name) {
+            Ok(nodes) => Ok(Site {
+                alloc,
+                host,
+                nodes,
+                stopped: None,
+            }),
+            Err(stop) => Err((stop, host)),
+        }
     }
 }
 

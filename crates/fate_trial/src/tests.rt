@@ -1,5 +1,5 @@
 // Towers over a host in memory, with a stop within each of its calls.
-ghost use Rattle.std.specs.Prelude.{IfOk, OnOk};
+ghost use Rattle.std.specs.Prelude.{◌≡◌, IfOk, Ok, OnOk};
 ghost use Rattle.memory_host.specs.Memory.{memory_state};
 ghost use Rattle.fate_trial.specs.Site.{GoesOn};
 
@@ -26,11 +26,22 @@ const WHOLE: [Row; 3] = [
 // One whose roof was refused. Its status was set three times.
 const UNDONE: [Row; 2] = [(b"/ban", b"-", 0), (b"/fate/s/1", b"Xetower", 3)];
 
+// The site, without the host of one that isn't there.
+fn site_of(made: Result<Site<MemoryHost>, (Stop, MemoryHost)>) -> Result<Site<MemoryHost>, Fail>
+    ensures { IfOk result (λ site. made ≡ Ok site) }
+{
+    match made {
+        Ok(site) => Ok(site),
+        Err((stop, _)) => Err(stop)?,
+    }
+}
+
 // A store with a tower that is submitted.
 fn submitted(alloc: Global, stop: Option<u64>, is_banned: bool) -> Result<Site<MemoryHost>, Fail>
     ensures { IfOk result (λ site. GoesOn memory_state site) }
 {
-    let mut site = Site::create(alloc, MemoryHost::new(alloc, b"", &[], stop)?)?;
+    let host = MemoryHost::new(alloc, b"", &[], stop)?;
+    let mut site = site_of(Site::create(alloc, host))?;
     put(&mut site, slot_path(alloc, Slot::Lower, 1)?, b"\x05Raise")?;
     put(&mut site, slot_path(alloc, Slot::Status, 1)?, b"S-tower")?;
     if !is_banned {
@@ -90,7 +101,8 @@ fn survives(
         nodes: _,
         stopped: _,
     } = site;
-    let mut site = Site::open(alloc, host.after_crash(b"", &[], None, pick)?)?;
+    let after = host.after_crash(b"", &[], None, pick)?;
+    let mut site = site_of(Site::open(alloc, after))?;
     finish(1, &mut site)?;
     Ok(outcome.is_err() && has_nodes(&site, expected)?)
 }
