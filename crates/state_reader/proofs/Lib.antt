@@ -6,3 +6,6 @@ pub mod BadRows
 pub mod LevelReads
 pub mod NoLevels
 pub mod Prefixes
+pub mod RootReads
+pub mod LackLemmas
+pub mod NoReadings

@@ -43,7 +43,7 @@ pub fn tablet_at(alloc: Global, row: &Row) -> Result<Option<(TableId, Option<Row
 }
 
 /// Whether it is want of memory.
-fn is_no_memory(fault: SchemaFault) -> bool
+pub fn is_no_memory(fault: SchemaFault) -> bool
     ensures { MatchBool result (fault ≡ NoRoom) (fault ≢ NoRoom) }
 {
     matches!(fault, SchemaFault::NoMemory)

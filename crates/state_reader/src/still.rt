@@ -5,7 +5,7 @@ ghost use Rattle.std.specs.FinMap as map;
 use crate::name_map::NameMap;
 use cell_merge::Cells;
 use metadata_schema::Mutation;
-use node_store::Node;
+use node_store::NodeStore;
 use row_keys::{ListOf, LogNameForm, PathForm};
 use std::alloc::Global;
 
@@ -15,7 +15,7 @@ pub type Mutations = ListOf<Mutation>;
 /// A ground made in memory: the nodes, and the files, logs and sorted logs that it tells of.
 #[derive(Drop)]
 pub struct StillGround {
-    pub nodes: NameMap<PathForm, Node>,
+    pub nodes: NodeStore,
     /// The cells of data files, by their paths.
     pub files: NameMap<PathForm, Cells>,
     /// The mutations of logs, by their names.
@@ -25,12 +25,12 @@ pub struct StillGround {
 }
 
 impl StillGround {
-    /// A ground with no nodes, which tells of nothing. Takes no memory.
-    pub fn new(alloc: Global) -> StillGround
-        ensures { result ≡ record { nodes = map.empty; files = map.empty; logs = map.empty; sorted = map.empty } }
+    /// A ground with these nodes, which tells of no file and no log. Takes no memory.
+    pub fn new(alloc: Global, nodes: NodeStore) -> StillGround
+        ensures { result ≡ record { nodes = nodes; files = map.empty; logs = map.empty; sorted = map.empty } }
     {
         StillGround {
-            nodes: NameMap::new(alloc),
+            nodes,
             files: NameMap::new(alloc),
             logs: NameMap::new(alloc),
             sorted: NameMap::new(alloc),

@@ -126,7 +126,7 @@ fn log_of_session(alloc: Global, holder: &Holder) -> Result<LogName, AllocError>
 }
 
 /// The logs that a record names, and that of the session in its `loc`. Takes memory for their names.
-pub(crate) fn logs_of(alloc: Global, tablet: &TabletRecord) -> Result<Vec<LogName>, AllocError>
+pub fn logs_of(alloc: Global, tablet: &TabletRecord) -> Result<Vec<LogName>, AllocError>
     ensures { IfOk result (λ logs. logs.items ≡ logs_of tablet.now) }
 {
     let mut logs = Vec::new(alloc);

@@ -1,10 +1,13 @@
 // Small grounds made by hand.
 use super::*;
 use cell_merge::{Cell, Cells};
+use memory_host::QuietHost;
 use metadata_schema::{FileEntry, Holder, Mutation, TabletRecord, Update};
+use node_store::{NodeOp, NodeStore};
 use row_keys::{Key, ListOf, LogName, Octets, Path, Row, ServerName, SessionId, TableId};
 use std::alloc::Global;
 use std::test::Fail;
+use store_layout::nodes_name;
 
 const FILE: &[u8] = b"1/default_tablet/F0000001.rf";
 
@@ -114,9 +117,24 @@ fn four_mutations(alloc: Global) -> Result<Mutations, Fail> {
     Ok(mutations)
 }
 
+// Nodes with these paths and values.
+fn nodes_of(alloc: Global, entries: &[(&[u8], &[u8])]) -> Result<NodeStore, Fail> {
+    let mut host = QuietHost::new(alloc, b"")?;
+    let mut nodes = NodeStore::create(alloc, &mut host, &nodes_name(alloc)?)?;
+    let mut ops = Vec::new(alloc);
+    for (path, value) in entries {
+        ops.push(NodeOp::Create {
+            path: Path::new(alloc, path)?.ok_or("no path")?,
+            value: Octets::new(alloc, value)?,
+        })?;
+    }
+    nodes.multi(&mut host, &ops)?;
+    Ok(nodes)
+}
+
 // The ground with that file and that log.
 fn small_ground(alloc: Global) -> Result<StillGround, Fail> {
-    let mut still = StillGround::new(alloc);
+    let mut still = StillGround::new(alloc, nodes_of(alloc, &[])?);
     still.files.insert(file_of(alloc)?, two_cells(alloc)?)?;
     still.logs.insert(log_of(alloc)?, four_mutations(alloc)?)?;
     Ok(still)
