@@ -1,0 +1,4 @@
+pub mod PutLemmas
+pub mod ConsistentLemmas
+pub mod PartLemmas
+pub mod TableLemmas
