@@ -7,6 +7,8 @@
 mod consistent;
 mod fault;
 mod lists;
+#[cfg(test)]
+mod made;
 mod marks;
 mod parts;
 mod put;

@@ -61,9 +61,9 @@ fn create(
 /// Puts a table into a state as the ground stands for it, in place of one with its id: its name, its split points, and the newest of its
 /// cells with the files of an import mark over those of the tablets that lack it. The records are those of its level.
 ///
-/// `NameTaken` comes exactly where a table of the state has the name and the ground has a table; each other fault but want of memory only
-/// where it has none, and names what is to blame. Then the state may be neither. Takes memory for copies of the cells, and time with the
-/// square of their number.
+/// `NameTaken` comes only where a table of the state has the name; each other fault but want of memory only where the ground has no
+/// such table, and names what is to blame. Behind a fault the table may be in the state with some of its pairs. Takes memory for
+/// copies of the cells, and time with the square of their number.
 pub fn put_table(
     alloc: Global,
     still: &StillGround,
