@@ -112,18 +112,29 @@ fn a_row_that_is_left_over_counts_for_nothing(rt: HostRuntime) -> Result<(), Fai
     Ok(())
 }
 
-// What the tablet stands for whose log has one mutation at this time.
-fn logged_text(alloc: Global, time: u64, file_time: Option<u64>) -> Result<Vec<u8>, Fail> {
+// The tablet of all rows, with a file and a log.
+fn logged_tablet(alloc: Global, file_time: Option<u64>) -> Result<TabletRecord, Fail> {
     let mut whole = bare(alloc, None, None)?;
     add_file(alloc, &mut whole, FILE, file_time)?;
-    let log = LogName::new(alloc, LOG)?.ok_or("no log")?;
-    whole.logs.push(log)?;
+    whole.logs.push(LogName::new(alloc, LOG)?.ok_or("no log")?)?;
+    Ok(whole)
+}
+
+// A ground whose log has one mutation at this time.
+fn logged_ground(alloc: Global, time: u64) -> Result<StillGround, Fail> {
     let mut mutations = Mutations::new(alloc);
     mutations.push(mutation(alloc, time, b"v")?)?;
     let mut still = ground(alloc)?;
     let log = LogName::new(alloc, LOG)?.ok_or("no log")?;
     still.logs.insert(log, mutations)?;
-    table_text(alloc, &still, &one(alloc, whole)?, Mark::Free)
+    Ok(still)
+}
+
+// What the tablet stands for whose log has one mutation at this time.
+fn logged_text(alloc: Global, time: u64, file_time: Option<u64>) -> Result<Vec<u8>, Fail> {
+    let still = logged_ground(alloc, time)?;
+    let tablets = one(alloc, logged_tablet(alloc, file_time)?)?;
+    table_text(alloc, &still, &tablets, Mark::Free)
 }
 
 #[test]
