@@ -2,10 +2,8 @@
 use Rattle.std.proofs.Common.{◌≡◌, ◌≢◌, ◌⊎◌, inl, inr, ⊎_elim, ℕ, ◌+◌, ◌^◌, ◌≤◌, List, [], ◌∷◌, get_or, Some, None, Result, Ok, Err, refl, sym, ◌∙◌, ap, subst, arith}
 use Rattle.std.specs.FinMap as map
 use Rattle.std.specs.Fmt.{decimal}
-use Rattle.std.proofs.lemmas.Fmt.{decimal_injective}
 use Rattle.host_model.specs.State.{HostState}
 use Rattle.host_model.specs.declared.fault.Stop.TheVariants.{Full}
-use Rattle.node_store.specs.declared.changes.Node.{Node}
 use Rattle.node_store.specs.declared.changes.NodeOp.{NodeOp}
 use Rattle.node_store.specs.declared.changes.NodeOp.TheVariants.{Set}
 use Rattle.node_store.specs.declared.changes.NodeStop.{NodeStop}
@@ -14,6 +12,7 @@ use Rattle.node_store.specs.Nodes.{Nodes, applied, multi_applied}
 use Rattle.node_store.specs.Value.{StoreValue}
 use Rattle.node_store.specs.Answers.{IsFull, MultiCause, IsRefusal, AnswersOrNoMemory}
 use Rattle.store_layout.specs.Nodes.{IsNext, next_session_path}
+use Rattle.kept_meaning.proofs.DrawnLemmas.{one_next}
 use Rattle.server_nodes.specs.Sessions.{session_of, log_of, server_path, log_path}
 use Rattle.server_nodes.specs.Starting.{start_ops, put_op, IsDrawable, IsStartFull}
 use Rattle.server_nodes.specs.Started.{HasStarted}
@@ -87,18 +86,12 @@ not_refused nodes name number ops stop next are refused = ⊎_elim
     (λ full. let err : multi_applied (start_ops nodes name number) nodes ≡ Err stop = ap (λ l. multi_applied l nodes) (sym are) ∙ refused in let is : multi_applied (start_ops nodes name number) nodes ≡ Err (Stop Full) = full in cc)
     (start_made nodes name number next)
 
--- one counter stands at one number
-pub one_number : (nodes : Nodes) (path : List ℕ) (a b : ℕ) → IsNext nodes path a → IsNext nodes path b → a ≡ b
-one_number nodes path a b one other =
-    let same : one.node ≡ other.node = let h : map.get nodes path ≡ Some one.node = one.there in let k : map.get nodes path ≡ Some other.node = other.there in cc in
-    decimal_injective a b (omega (arith, one.value.most)) (omega (arith, other.value.most)) (sym one.value.is ∙ ap (λ (n : Node). n.value) same ∙ other.value.is)
-
 -- where the number is the last one or there is no room, the changes aren't made
 pub full_not_made : (name : List ℕ) (store : StoreValue) (number : ℕ) (ops : List NodeOp) → IsDrawable store.nodes number → ops ≡ start_ops store.nodes name number → IsStartFull name store → IsFull ops store
 full_not_made name store number ops plan are full = at full.full
   where
     same : full.number ≡ number
-    same = one_number store.nodes next_session_path full.number number full.next plan.next
+    same = one_next store.nodes next_session_path full.number number full.next plan.next
 
     at : (2 ^ 63 ≤ full.number + 1) ⊎ IsFull (start_ops store.nodes name full.number) store → IsFull ops store
     at (inl late) = absurd (omega (arith, same, late, plan.more))

@@ -39,8 +39,11 @@ fn clear_ops(alloc: Global, nodes: &NodeStore) -> Result<Vec<NodeOp>, AllocError
     Ok(ops)
 }
 
-/// Takes a server, which has a node, out: its node goes, and that of its log stays. One multi: whole or absent at a stop or a
-/// crash.
+/// Takes a server, which has a node, out: its node goes, and that of its log stays. Whole or absent at a stop or a crash.
+///
+/// `Full` comes only where there is no room for the change. Each other stop is a fault of the disk or the host's memory, which is
+/// counted, or want of memory, or one that was answered before. One multi: two syncs and no open; time with the logarithm of the
+/// number of nodes.
 pub fn end<H: Host>(alloc: Global, ground: &mut Ground<H>, name: &ServerName) -> Result<(), Stop>
     requires { IsSome (map.get ground.old.nodes.nodes (server_path name.now)) }
     ensures acts { Acts H.state (MayGive (delete_op (server_path name.now) ∷ []) ground.old.nodes) (Gives (delete_op (server_path name.now) ∷ []) ground.old.nodes) (stop_of result) ground.old ground.new }
@@ -60,8 +63,10 @@ pub fn end<H: Host>(alloc: Global, ground: &mut Ground<H>, name: &ServerName) ->
     }
 }
 
-/// Takes all servers out, as those of an earlier run are at opening. One multi: whole or absent at a stop or a crash; none where
-/// there are no servers.
+/// Takes all servers out, as those of an earlier run are at opening. Whole or absent at a stop or a crash.
+///
+/// Stops as `end` does. One multi: two syncs and no open, and none where there are no servers, so that the host is asked nothing
+/// then. Takes memory for their paths, and time with their number and the logarithm of the number of nodes.
 pub fn clear<H: Host>(alloc: Global, ground: &mut Ground<H>) -> Result<(), Stop>
     ensures acts { Acts H.state (MayGiveAny (clear_ops ground.old.nodes.nodes) ground.old.nodes) (GivesAny (clear_ops ground.old.nodes.nodes) ground.old.nodes) (stop_of result) ground.old ground.new }
     ensures nodes { OnOk result (multi_applied (clear_ops ground.old.nodes.nodes) ground.old.nodes.nodes ≡ Ok ground.new.nodes.nodes) }
