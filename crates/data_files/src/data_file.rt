@@ -4,6 +4,7 @@ ghost use Rattle.std.specs.Option.{option_map};
 ghost use Rattle.host_model.specs.Picture.{Becomes, file_at};
 ghost use Rattle.host_model.specs.Calls.{HasCause, Looks};
 ghost use Rattle.host_model.specs.Stores.{Stores};
+ghost use Rattle.host_model.specs.declared.call.HostCall.TheVariants.{Sync};
 ghost use Rattle.data_files.specs.Cells.{AreFileCells};
 ghost use Rattle.data_files.specs.Files.{greatest_time, spelled_file, IsDataFile, HoldsCells, WritesCells, IsDamaged, MayMake, WriteCause, ReadCause};
 
@@ -25,6 +26,7 @@ pub struct DataFile {
 /// Makes the file anew with these bytes, and syncs.
 fn write_synced<H: Host>(host: &mut H, name: &Name, bytes: &[u8]) -> Result<(), HostFault>
     ensures stores { Stores name.now (MayMake (length bytes.now)) (Becomes (Some bytes.now)) result (H.state host.old) (H.state host.new) }
+    ensures last { OnOk result ((H.state host.new).last ≡ Some Sync) }
     ensures cause { HasCause result (H.state host.old) (H.state host.new) }
 {
     host.create(name)?;
@@ -49,6 +51,7 @@ pub fn write_file<H: Host>(
     ensures written { OnOk result (IsDataFile (spelled_file cells.now) cells.now) }
     ensures writes { WritesCells name.now cells.now result (H.state host.old) (H.state host.new) }
     ensures size { IfOk result (λ size. size ≡ length (spelled_file cells.now)) }
+    ensures last { OnOk result ((H.state host.new).last ≡ Some Sync) }
     ensures untouched { IsErrOf result Stop.NoMemory → host.new ≡ host.old }
     ensures stops { IfErr result (λ stop. WriteCause stop (H.state host.old) (H.state host.new)) }
 {

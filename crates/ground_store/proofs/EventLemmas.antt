@@ -1,5 +1,5 @@
 -- How actions of a ground follow one another in an event.
-use Rattle.std.proofs.Common.{◌≡◌, Option, Some, None, Result, Ok, Err, IsTrue, sym, ◌∙◌}
+use Rattle.std.proofs.Common.{Option, Some, None, IsTrue, ◌∙◌}
 use Rattle.host_model.specs.Picture.{Image}
 use Rattle.host_model.specs.State.{HostState}
 use Rattle.host_model.specs.Calls.{Keeps, IsSound}
@@ -8,7 +8,7 @@ use Rattle.host_model.specs.declared.fault.Stop.TheVariants.{Host, Damaged, Full
 use Rattle.host_model.proofs.CallsLemmas.{still_faithful, still_honest, quiet-then, faulted-then}
 use Rattle.host_model.proofs.LeavesLemmas.{leaves_then, leaves_weaker}
 use Rattle.ground_store.specs.Value.{GroundValue}
-use Rattle.ground_store.specs.Acts.{Acts, Goes, GoesOn, KeepsStop, StaysStopped, IsCounted, Unless}
+use Rattle.ground_store.specs.Acts.{Acts, Goes, GoesOn, IsCounted, Unless}
 
 abbrev Change : Type 1
 Change = Image → Image → Type 0

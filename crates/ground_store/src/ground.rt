@@ -2,6 +2,7 @@
 ghost use Rattle.std.specs.Prelude.{◌≡◌, None, IfErr, IfOk, OnOk, IsTrue};
 ghost use Rattle.host_model.specs.Picture.{file_names};
 ghost use Rattle.ground_store.specs.Acts.{Acts, stop_of};
+ghost use Rattle.ground_store.specs.Causes.{FileCause};
 ghost use Rattle.ground_store.specs.Steps.{Stays};
 
 use crate::again::{again, keep};
@@ -53,11 +54,13 @@ impl<H: Host> Ground<H> {
         &self.nodes
     }
 
-    /// The names of the host's files, in byte order. Asks the host once.
+    /// The names of the host's files, in byte order. Asks the host once. A stop is a fault of the disk or the host's memory,
+    /// which is counted, or want of memory.
     pub fn names_left(&mut self) -> Result<Vec<Name>, Stop>
         ensures acts { Acts H.state Stays Stays (stop_of result) self.old self.new }
         ensures names { IsTrue (H.state self.old.host).is_faithful → IfOk result (λ names. names.items ≡ file_names (H.state self.old.host).files) }
         ensures same { (self.new.nodes ≡ self.old.nodes) × (self.new.logs ≡ self.old.logs) }
+        ensures stops { self.old.stopped ≡ None → IfErr result (λ stop. FileCause stop (H.state self.old.host) (H.state self.new.host)) }
     {
         if let Some(stop) = &self.stopped {
             return Err(again(self.alloc, stop));

@@ -16,6 +16,19 @@ IsLook (Some Sync) = ⊥
 IsLook (Some Hear) = ⊥
 IsLook (Some Say) = ⊥
 
+-- a call that only asks of the files, or one that makes lasting what was written
+abbrev pub IsLookOrSync : Option HostCall → Type 0
+IsLookOrSync None = ⊥
+IsLookOrSync (Some Names) = Unit {0}
+IsLookOrSync (Some Create) = ⊥
+IsLookOrSync (Some Remove) = ⊥
+IsLookOrSync (Some Length) = Unit {0}
+IsLookOrSync (Some Read) = Unit {0}
+IsLookOrSync (Some Write) = ⊥
+IsLookOrSync (Some Sync) = Unit {0}
+IsLookOrSync (Some Hear) = ⊥
+IsLookOrSync (Some Say) = ⊥
+
 -- a call that hears of the script, or says of the replies
 abbrev pub IsOfScript : Option HostCall → Type 0
 IsOfScript None = ⊥

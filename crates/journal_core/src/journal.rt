@@ -1,5 +1,5 @@
 // A journal over one file of a host.
-ghost use Rattle.std.specs.Prelude.{◌≡◌, ◌+◌, ◌↔◌, [], ◌∷◌, List, ℕ, Some, IfOk, IfErr, OnOk, OnErr, IsErr, IsErrOf, IsTrue, length};
+ghost use Rattle.std.specs.Prelude.{◌≡◌, ◌⊎◌, ◌+◌, ◌↔◌, [], ◌∷◌, List, ℕ, Some, IfOk, IfErr, OnOk, OnErr, IsErr, IsErrOf, IsTrue, length};
 ghost use Rattle.host_model.specs.Picture.{OnBytes, Becomes};
 ghost use Rattle.host_model.specs.Calls.{Looks};
 ghost use Rattle.host_model.specs.Kinds.{IsLook};
@@ -57,6 +57,7 @@ impl Journal {
         ensures made { IfOk result (λ journal. journal ≡ record { name = name.now; end = 0; records = [] }) }
         ensures holds { IsTrue (H.state host.new).is_faithful → OnOk result (Holds name.now 0 [] (H.state host.new).files) }
         ensures opened { IsTrue (H.state host.new).is_faithful → OnOk result (IsOpen name.now 0 (H.state host.new).files) }
+        ensures last { OnOk result ((H.state host.new).last ≡ Some Sync) }
         ensures untouched { IsErrOf result Stop.NoMemory → host.new ≡ host.old }
         ensures stops { IfErr result (λ stop. FileCause stop (H.state host.old) (H.state host.new)) }
     {
@@ -73,8 +74,9 @@ impl Journal {
     /// Opens a journal, as a crash may have left it. It changes nothing.
     ///
     /// `Damaged` names the file where it isn't there or isn't a journal's; each other stop is a
-    /// fault of the host, which is counted, or want of memory. Takes memory for the whole file and
-    /// its records, and time that grows with the file; two calls of the host.
+    /// fault of the host, which is counted, or want of memory, and then the host is as it was or its
+    /// last call only asked. Takes memory for the whole file and its records, and time that grows
+    /// with the file; two calls of the host.
     pub fn open<H: Host>(alloc: Global, host: &mut H, name: &Name) -> Result<Journal, Stop>
         ensures looks { Looks (H.state host.old) (H.state host.new) }
         ensures last { OnOk result (IsLook (H.state host.new).last) }
@@ -82,6 +84,7 @@ impl Journal {
         ensures holds { IsTrue (H.state host.old).is_faithful → IfOk result (λ journal. Holds name.now journal.end journal.records (H.state host.old).files) }
         ensures opened { IsTrue (H.state host.new).is_faithful → IfOk result (λ journal. IsOpen name.now journal.end (H.state host.new).files) }
         ensures damaged { IsTrue (H.state host.old).is_faithful → IsDamaged name.now (H.state host.old).files → IsErr result }
+        ensures asked { IsErrOf result Stop.NoMemory → (host.new ≡ host.old) ⊎ IsLook (H.state host.new).last }
         ensures stops { IfErr result (λ stop. OpenCause name.now stop (H.state host.old) (H.state host.new)) }
     {
         let own = name.copy(alloc)?;

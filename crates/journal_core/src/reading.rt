@@ -1,5 +1,5 @@
 // Reads a file of records.
-ghost use Rattle.std.specs.Prelude.{◌≡◌, ℕ, List, IsTrue, IfOk, IfErr, OnOk, MatchOption};
+ghost use Rattle.std.specs.Prelude.{◌≡◌, ◌⊎◌, ℕ, List, IsTrue, IfOk, IfErr, OnOk, IsErrOf, MatchOption};
 ghost use Rattle.std.specs.Option.{option_map};
 ghost use Rattle.host_model.specs.Picture.{file_at};
 ghost use Rattle.host_model.specs.Calls.{Looks};
@@ -21,11 +21,13 @@ pub struct Contents {
     pub records: Vec<Octets>,
 }
 
-/// The bytes of a whole file, or none where it isn't there. Takes memory for them.
+/// The bytes of a whole file, or none where it isn't there. Takes memory for them, and where that is wanting the last call
+/// of the host only asked.
 pub fn read_file<H: Host>(alloc: Global, host: &mut H, name: &Name) -> Result<Option<Vec<u8>>, Stop>
     ensures looks { Looks (H.state host.old) (H.state host.new) }
     ensures last { OnOk result (IsLook (H.state host.new).last) }
     ensures is { IsTrue (H.state host.old).is_faithful → IfOk result (λ found. file_at (H.state host.old).files name.now ≡ option_map (λ bytes. bytes.items) found) }
+    ensures asked { IsErrOf result Stop.NoMemory → IsLook (H.state host.new).last }
     ensures stops { IfErr result (λ stop. FileCause stop (H.state host.old) (H.state host.new)) }
 {
     let Some(size) = host.length(name)? else {

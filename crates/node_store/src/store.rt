@@ -62,6 +62,7 @@ impl NodeStore {
         ensures alters { Alters (IsNodeFile name.now) (MayStart name.now) (Starts name.now) result (H.state host.old) (H.state host.new) }
         ensures made { IfOk result (λ store. store ≡ record { name = name.now; nodes = map.empty; end = 0 }) }
         ensures stored { IsTrue (H.state host.new).is_faithful → IfOk result (λ store. IsStored store (H.state host.new).files) }
+        ensures last { OnOk result ((H.state host.new).last ≡ Some Sync) }
         ensures untouched { IsErrOf result NoMemory → host.new ≡ host.old }
         ensures stops { IfErr result (λ stop. FileCause stop (H.state host.old) (H.state host.new)) }
     {
@@ -77,13 +78,14 @@ impl NodeStore {
     ///
     /// `Damaged` names the nodes, and comes only where the host has none by this name: the file isn't there or isn't a
     /// journal's, or a record isn't a multi that applies. Each other stop is a fault of the disk or the host's memory, which
-    /// is counted, or want of memory. Two calls of the host. The time grows with the file, times the logarithm of the number
-    /// of nodes, and the memory with the file.
+    /// is counted, or want of memory, and then the host is as it was or its last call only asked. Two calls of the host. The
+    /// time grows with the file, times the logarithm of the number of nodes, and the memory with the file.
     pub fn open<H: Host>(alloc: Global, host: &mut H, name: &Name) -> Result<NodeStore, Stop>
         ensures looks { Looks (H.state host.old) (H.state host.new) }
         ensures last { OnOk result (IsLook (H.state host.new).last) }
         ensures name { IfOk result (λ store. store.name ≡ name.now) }
         ensures stored { IsTrue (H.state host.old).is_faithful → IfOk result (λ store. IsStored store (H.state host.old).files) }
+        ensures asked { IsErrOf result NoMemory → (host.new ≡ host.old) ⊎ IsLook (H.state host.new).last }
         ensures stops { IfErr result (λ stop. OpenCause name.now stop (H.state host.old) (H.state host.new)) }
     {
         let mut journal = Journal::open(alloc, host, name)?;
@@ -167,6 +169,7 @@ impl NodeStore {
 /// Stops at a fault of the disk or the host's memory, which is counted. At most two calls of the host; takes no memory.
 pub fn is_born<H: Host>(host: &mut H, name: &Name) -> Result<bool, HostFault>
     ensures looks { Looks (H.state host.old) (H.state host.new) }
+    ensures last { OnOk result (IsLook (H.state host.new).last) }
     ensures born { IsTrue (H.state host.old).is_faithful → IfOk result (λ born. MatchBool born (IsBorn name.now (H.state host.old).files) (IsUnborn name.now (H.state host.old).files)) }
     ensures cause { HasCause result (H.state host.old) (H.state host.new) }
 {

@@ -1,11 +1,12 @@
 -- A store is opened, or made: its nodes, and the tables that they say.
-use Rattle.std.proofs.Common.{◌≡◌, inl, inr, ⊎_elim, Bool, false, true, Ok, Err, IsTrue, refl, sym, ◌∙◌, ap, subst}
+use Rattle.std.proofs.Common.{◌≡◌, ◌⊎◌, inl, inr, ⊎_elim, Bool, false, true, Some, Ok, Err, IsTrue, refl, sym, ◌∙◌, ap, subst}
 use Rattle.std.proofs.lemmas.Bool.{false≢true}
 use Rattle.host_model.specs.Picture.{Image}
 use Rattle.host_model.specs.State.{HostState}
 use Rattle.host_model.specs.Calls.{IsSound, Looks}
-use Rattle.host_model.specs.Kinds.{IsLook}
+use Rattle.host_model.specs.Kinds.{IsLook, IsLookOrSync}
 use Rattle.host_model.specs.Leaves.{AllSettled}
+use Rattle.host_model.specs.declared.call.HostCall.TheVariants.{Sync}
 use Rattle.host_model.specs.declared.fault.Stop.{Stop}
 use Rattle.host_model.specs.declared.fault.Stop.TheVariants.{Host, Damaged, Full, NoMemory}
 use Rattle.host_model.proofs.CallsLemmas.{was_faithful}
@@ -27,8 +28,14 @@ use Rattle.table_store.specs.StoreValue.{StoreValue, IsFresh, ReadStops}
 use Rattle.table_store.proofs.FirstLemmas.{reading_first}
 use Rattle.table_store.proofs.LawsLemmas.{one_reading}
 use Rattle.table_store.proofs.CreatingLemmas.{says_stored}
+use Rattle.shell.specs.LineServed.{IsUnchanged}
 use Rattle.shell.specs.Readable.{IsLeft, LeavesReadable}
 use Rattle.shell.specs.Opening.{OpenStops, InitStops, IsBegunOrNot, LeavesDisk, OpensStore}
+use Rattle.shell.proofs.LineLemmas.{unchanged}
+
+-- a host that is the same was asked nothing
+pub was_asked : {H : Type 0} (state : H → HostState) {old new : H} {Last : Type 0} → (new ≡ old) ⊎ Last → IsUnchanged (state old) (state new) ⊎ Last
+was_asked state asked = ⊎_elim (λ same. inl (unchanged (ap state same))) (λ last. inr last) asked
 
 -- ---- a store that is there
 
@@ -36,24 +43,24 @@ left_looked : {old new : HostState} → Looks old new → LeavesDisk false old n
 left_looked looks = record { quiet = looks.quiet; looks = λ _. looks; spares = λ e. absurd (false≢true e); tried = λ e. absurd (false≢true e); leaves = λ e. absurd (false≢true e) }
 
 -- there are no nodes to open
-pub unopened : (stop : GroundStop) {old new : HostState} → Looks old new → opening.OpenStops stop old new → OpensStore false (Err stop) old new
-unopened stop {old} {new} looks why = record {
+pub unopened : (stop : GroundStop) {old new : HostState} → Looks old new → opening.OpenStops stop old new → (stop ≡ Stopped NoMemory → IsUnchanged old new ⊎ IsLook new.last) → OpensStore false (Err stop) old new
+unopened stop {old} {new} looks why asked = record {
   fresh = tt;
   sure = tt;
   begins = λ f. tt;
   readable = λ f start. tt;
-  stops = at stop why;
+  stops = at stop why asked;
   left = left_looked looks;
   rests = λ h rests. tt;
 }
   where
-    at : (s : GroundStop) → opening.OpenStops s old new → OpenStops s old new
-    at NotInit why = why
-    at NotBlank why = why
-    at (Stopped (Host fault)) why = why
-    at (Stopped (Damaged named)) why = (why.0, λ f. ((why.1 f).0, record { none = λ tables says. (why.1 f).1.none says.nodes says.has }), why.2)
-    at (Stopped Full) why = why
-    at (Stopped NoMemory) why = tt
+    at : (s : GroundStop) → opening.OpenStops s old new → (s ≡ Stopped NoMemory → IsUnchanged old new ⊎ IsLook new.last) → OpenStops s old new
+    at NotInit why asked = why
+    at NotBlank why asked = why
+    at (Stopped (Host fault)) why asked = why
+    at (Stopped (Damaged named)) why asked = (why.0, λ f. ((why.1 f).0, record { none = λ tables says. (why.1 f).1.none says.nodes says.has }), why.2)
+    at (Stopped Full) why asked = why
+    at (Stopped NoMemory) why asked = asked refl
 
 module _ (nodes : NodeStoreValue) (named : nodes.name ≡ nodes_name) where
   says_none : (image : Image) → IsStored nodes image → HasNoReading nodes.nodes → SaysNoTables image
@@ -80,7 +87,7 @@ module _ (nodes : NodeStoreValue) (named : nodes.name ≡ nodes_name) where
         at (Host fault) why = absurd why
         at (Damaged name) why = (why.0, λ f. (born f, says_none old.files (stored f) why.1), look)
         at Full why = why
-        at NoMemory why = tt
+        at NoMemory why = inr look
 
     pub opened : (store : StoreValue) → IsSound old → IsFresh store → store.nodes ≡ nodes → IsReading nodes.nodes store.tables → OpensStore false (Ok store) old new
     opened store sound fresh is reading = record {
@@ -115,29 +122,29 @@ module _ (kept : NewStoresAreKept) {old new : HostState} (begins : opening.Begin
   }
 
   -- no nodes were made
-  pub unmade : (stop : GroundStop) → opening.InitStops stop old new → OpensStore true (Err stop) old new
-  unmade stop why = record {
+  pub unmade : (stop : GroundStop) → opening.InitStops stop old new → (stop ≡ Stopped NoMemory → IsUnchanged old new ⊎ IsLookOrSync new.last) → OpensStore true (Err stop) old new
+  unmade stop why asked = record {
     fresh = tt;
     sure = tt;
     begins = λ f. tt;
     readable = λ f start. tt;
-    stops = at stop why;
+    stops = at stop why asked;
     left = left_made;
     rests = λ h rests. tt;
   }
     where
-      at : (s : GroundStop) → opening.InitStops s old new → InitStops s old new
-      at NotInit why = why
-      at NotBlank why = why
-      at (Stopped (Host fault)) why = why
-      at (Stopped (Damaged named)) why = why
-      at (Stopped Full) why = why
-      at (Stopped NoMemory) why = tt
+      at : (s : GroundStop) → opening.InitStops s old new → (s ≡ Stopped NoMemory → IsUnchanged old new ⊎ IsLookOrSync new.last) → InitStops s old new
+      at NotInit why asked = why
+      at NotBlank why asked = why
+      at (Stopped (Host fault)) why asked = why
+      at (Stopped (Damaged named)) why asked = why
+      at (Stopped Full) why asked = why
+      at (Stopped NoMemory) why asked = asked refl
 
   module _ (made : NodeStoreValue) (first : opening.AreFirst made) where
     -- there was no memory for their tables
-    pub unread_new : (stop : Stop) → ReadStops stop made.nodes → OpensStore true (Err (Stopped stop)) old new
-    unread_new stop why = record {
+    pub unread_new : (stop : Stop) → new.last ≡ Some Sync → ReadStops stop made.nodes → OpensStore true (Err (Stopped stop)) old new
+    unread_new stop synced why = record {
       fresh = tt;
       sure = tt;
       begins = λ f. tt;
@@ -151,7 +158,7 @@ module _ (kept : NewStoresAreKept) {old new : HostState} (begins : opening.Begin
         at (Host fault) why = absurd why
         at (Damaged name) why = why.1.none no_tables (reading_first made.nodes first.made)
         at Full why = why
-        at NoMemory why = tt
+        at NoMemory why = inr (subst IsLookOrSync (sym synced) tt)
 
     pub made_store : (store : StoreValue) → IsFresh store → store.nodes ≡ made → IsReading made.nodes store.tables → (IsTrue old.is_faithful → IsUnbornDisk old.files) → (IsTrue old.is_faithful → IsNewStore new.files)
         → (IsTrue new.is_faithful → IsStored made new.files) → (IsTrue old.is_honest → AllSettled old → AllSettled new) → OpensStore true (Ok store) old new

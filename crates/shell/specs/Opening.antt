@@ -3,7 +3,7 @@ use Rattle.std.specs.Prelude.{◌≡◌, ◌⊎◌, Bool, true, false, Result, I
 use Rattle.host_model.specs.Picture.{Image}
 use Rattle.host_model.specs.State.{HostState}
 use Rattle.host_model.specs.Calls.{IsQuiet, IsOfFiles, Faulted, Looks}
-use Rattle.host_model.specs.Kinds.{IsLook}
+use Rattle.host_model.specs.Kinds.{IsLook, IsLookOrSync}
 use Rattle.host_model.specs.Leaves.{LeavesOnly, Shows, AllSettled}
 use Rattle.host_model.specs.declared.fault.Stop.TheVariants.{Host, Damaged, Full, NoMemory}
 use Rattle.node_store.specs.Image.{IsBorn, IsUnborn, IsStored}
@@ -16,7 +16,7 @@ use Rattle.table_store.specs.Tables.{no_tables}
 use Rattle.table_store.specs.Room.{Station, IsNewStation}
 use Rattle.table_store.specs.Kept.{SaysTables, SaysNoTables, IsKept}
 use Rattle.table_store.specs.StoreValue.{StoreValue, IsFresh, station_of}
-use Rattle.shell.specs.LineServed.{IsSure}
+use Rattle.shell.specs.LineServed.{IsSure, IsUnchanged}
 use Rattle.shell.specs.Readable.{IsStart}
 
 -- the store that an image has
@@ -30,23 +30,23 @@ abbrev pub Begins : Bool → Image → Station → Type 0
 Begins false image start = IsStoreOf image start
 Begins true image start = IsUnbornDisk image × IsNewStation start
 
--- Why no store was opened. Where the nodes are damaged, the last call only asked.
+-- Why no store was opened. Where the nodes are damaged, the last call only asked. Where the program's own memory was short, of any host: so it did, or nothing was asked.
 abbrev pub OpenStops : GroundStop → HostState → HostState → Type 0
 OpenStops NotInit old new = IsTrue old.is_faithful → IsUnborn nodes_name old.files
 OpenStops NotBlank old new = ⊥
 OpenStops (Stopped (Host fault)) old new = IsOfFiles fault × Faulted fault old new
 OpenStops (Stopped (Damaged named)) old new = (named ≡ nodes_name) × (IsTrue old.is_faithful → IsBorn nodes_name old.files × SaysNoTables old.files) × IsLook new.last
 OpenStops (Stopped Full) old new = ⊥
-OpenStops (Stopped NoMemory) old new = Unit {0}
+OpenStops (Stopped NoMemory) old new = IsUnchanged old new ⊎ IsLook new.last
 
--- why no store was made
+-- Why no store was made. Where the program's own memory was short, of any host: the last call only asked or was a sync, or nothing was asked.
 abbrev pub InitStops : GroundStop → HostState → HostState → Type 0
 InitStops NotInit old new = ⊥
 InitStops NotBlank old new = Looks old new × (IsTrue old.is_faithful → IsUnbornDisk old.files → ⊥)
 InitStops (Stopped (Host fault)) old new = IsOfFiles fault × Faulted fault old new
 InitStops (Stopped (Damaged named)) old new = ⊥
 InitStops (Stopped Full) old new = ⊥
-InitStops (Stopped NoMemory) old new = Unit {0}
+InitStops (Stopped NoMemory) old new = IsUnchanged old new ⊎ IsLookOrSync new.last
 
 abbrev pub StoreStops : Bool → GroundStop → HostState → HostState → Type 0
 StoreStops false stop first now = OpenStops stop first now
