@@ -167,6 +167,16 @@ module _ (session : List ℕ) where
           ap (λ b. cond b (Some (entry_of e)) (find (is_of_session session) (map entry_of more))) is
           ∙ rest (ap (λ b. cond b (Some e.0) (lookup_key (same session) more)) (sym is) ∙ k) (ap (λ b. cond b (Some e.1) (lookup (same session) more)) (sym is) ∙ v)
 
+  -- a server of the session is listed exactly where the session has an entry
+  pub listed_session : (entries : Entries) → is_some (lookup (same session) entries) ≡ is_some (find (is_of_session session) (map entry_of entries))
+  listed_session [] = refl
+  listed_session (e ∷ more) = by (same session e.0) (listed_session more)
+    where
+      by : (b : Bool) → is_some (lookup (same session) more) ≡ is_some (find (is_of_session session) (map entry_of more))
+          → is_some (cond b (Some e.1) (lookup (same session) more)) ≡ is_some (cond b (Some (entry_of e)) (find (is_of_session session) (map entry_of more)))
+      by true rest = refl
+      by false rest = rest
+
   pub placed : (clock : ℕ) (entries : Entries) → place_on clock (find (is_of_session session) (map entry_of entries)) ≡ place_in clock (lookup (same session) entries)
   placed clock [] = refl
   placed clock (e ∷ more) = by (same session e.0) (placed clock more)

@@ -1,6 +1,6 @@
 // The list of servers, and the clock.
-ghost use Rattle.std.specs.Prelude.{◌≡◌, ◌+◌, ◌<◌, ◌^◌, ℕ, List, true, false, Some, None, IfOk, OnOk, OnErr, position, nat_le};
-ghost use Rattle.std.specs.Option.{option_map_or};
+ghost use Rattle.std.specs.Prelude.{◌≡◌, ◌+◌, ◌<◌, ◌^◌, ℕ, List, true, false, Some, None, IfOk, OnOk, OnErr, is_some, position, nat_le};
+ghost use Rattle.std.specs.Option.{option_copied, option_map, option_map_or};
 ghost use Rattle.indexmap.specs.IndexMap.{values};
 ghost use Rattle.metadata_schema.specs.Bytes.{same};
 ghost use Rattle.server_list.specs.Servers.{Servers, at_opening, is_live, has_expired, is_listed, server_named, server_of, started, killed, ended, ticked};
@@ -187,6 +187,27 @@ impl ServerList {
             Some((_, session, standing)) => Ok(Some(entry_of(alloc, session, standing)?)),
             None => Ok(None),
         }
+    }
+
+    /// The session of the server of this name, live or killed, if it is in the list. Takes no memory, and time with the number of
+    /// servers.
+    pub fn session_of(&self, name: &ServerName) -> Option<&SessionId>
+        ensures { option_copied result ≡ option_map (λ server. server.session) (server_named name.now self.now) }
+    {
+        match index_of(&self.servers, name) {
+            Some(at) => match self.servers.get_index(at) {
+                Some((session, _)) => Some(session),
+                None => None,
+            },
+            None => None,
+        }
+    }
+
+    /// Whether a server of this session, live or killed, is in the list. Takes no memory, and constant time on average.
+    pub fn has_session(&self, session: &SessionId) -> bool
+        ensures { result ≡ is_some (server_of session.now self.now) }
+    {
+        self.servers.contains_key(session)
     }
 
     /// Where the tablet of this record is, by its `loc`. Takes constant time on average, and memory for a copy of the name.

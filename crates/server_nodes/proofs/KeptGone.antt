@@ -22,7 +22,7 @@ use Rattle.node_store.proofs.ImageLemmas.{one_nodes, stored_has}
 use Rattle.store_layout.specs.Names.{nodes_name}
 use Rattle.store_layout.specs.Nodes.{root_path}
 use Rattle.store_layout.specs.Tables.{Catalog, table_path, staged_path}
-use Rattle.store_meaning.specs.Ground.{Ground, with_nodes}
+use Rattle.store_meaning.specs.Ground.{Ground, IsGroundOf, with_nodes}
 use Rattle.store_meaning.specs.Levels.{Reading}
 use Rattle.store_meaning.specs.InUse.{IsListedLog, IsListedSorted}
 use Rattle.store_meaning.specs.Kept.{IsKept, IsKeptAs, IsServerSession, IsLogSession}
@@ -32,6 +32,7 @@ use Rattle.kept_meaning.specs.Servers.{ChangesServers}
 use Rattle.kept_meaning.proofs.ServerLemmas.{servers_kept}
 use Rattle.server_nodes.specs.Sessions.{server_path, log_path}
 use Rattle.server_nodes.specs.Ending.{delete_op, GivesAny, MayGiveAny}
+use Rattle.server_nodes.specs.Grounds.{IsGroundWithout}
 use Rattle.server_nodes.proofs.PutLemmas.{not_same}
 
 -- the path begins as that of a server
@@ -124,14 +125,18 @@ module _ (old : Image) (state : PlainState) (is : IsKept old state) (store : Sto
   same_nodes : store.nodes ≡ is.known.nodes
   same_nodes = one_nodes nodes_name old store.nodes is.known.nodes (subst (λ n. HasNodes n old store.nodes) named (stored_has store old stored)) is.of.nodes
 
-  gone : (new : Image) → OthersStay store.name old new → HasApplied (map delete_op paths) store new → IsKept new state
-  gone new others applied = record {
-    known = with_nodes is.known applied.after;
+  left : (new : Image) → OthersStay store.name old new → HasApplied (map delete_op paths) store new → IsGroundWithout paths is.reading is.catalog is.known state new
+  left new others applied = record {
+    nodes = applied.after;
+    gone = subst (λ nodes. multi_applied (map delete_op paths) nodes ≡ Ok applied.after) same_nodes applied.applies;
     of = nodes_changed old new is.known applied.after is.of (subst (λ n. OthersStay n old new) named others) (subst (λ n. HasNodes n new applied.after) named applied.has);
-    reading = is.reading;
-    catalog = is.catalog;
     kept = gone_kept is.reading is.catalog is.known state is.kept applied.after (subst (λ nodes. OnlyServersGo nodes applied.after) same_nodes (servers_go paths store.nodes applied.after servers applied.applies));
   }
+
+  gone : (new : Image) → OthersStay store.name old new → HasApplied (map delete_op paths) store new → IsKept new state
+  gone new others applied =
+      let ground = left new others applied in
+      record { known = with_nodes is.known ground.nodes; of = ground.of; reading = is.reading; catalog = is.catalog; kept = ground.kept }
 
   same_kept : (new : Image) → OthersStay store.name old new → HasNodes store.name new store.nodes → IsKept new state
   same_kept new others has = record {
@@ -144,6 +149,17 @@ module _ (old : Image) (state : PlainState) (is : IsKept old state) (store : Sto
 
 stays_kept : (old new : Image) (state : PlainState) → IsKept old state → new ≡ old → IsKept new state
 stays_kept old new state is same_image = subst (λ image. IsKept image state) (sym same_image) is
+
+-- what servers that were taken out leave
+pub given_left : (old new : Image) (state : PlainState) (is : IsKept old state) (store : StoreValue) → store.name ≡ nodes_name → IsStored store old → (paths : List (List ℕ)) → AllByRecursion (λ path. is_server path ≡ true) paths
+    → GivesAny (map delete_op paths) store old new → IsGroundWithout paths is.reading is.catalog is.known state new
+given_left old new state is store named stored [] servers stays = record {
+  nodes = is.known.nodes;
+  gone = refl;
+  of = subst (λ image. IsGroundOf image is.known) (sym stays) is.of;
+  kept = is.kept;
+}
+given_left old new state is store named stored (path ∷ more) servers gives = left old state is store named stored (path ∷ more) servers new gives.others (gives.nodes stored)
 
 -- so images in which servers are taken out
 pub given_kept : (old new : Image) (state : PlainState) → IsKept old state → (store : StoreValue) → store.name ≡ nodes_name → IsStored store old → (paths : List (List ℕ)) → AllByRecursion (λ path. is_server path ≡ true) paths

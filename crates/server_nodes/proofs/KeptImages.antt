@@ -21,6 +21,7 @@ use Rattle.ground_store.specs.Steps.{Writes}
 use Rattle.server_nodes.specs.Sessions.{session_of, log_of}
 use Rattle.server_nodes.specs.Starting.{start_ops, IsDrawable, Starts, MakesLog, MakesLogFirst, MayStart}
 use Rattle.server_nodes.specs.Started.{HasStarted}
+use Rattle.server_nodes.specs.Grounds.{IsStartedGround, started_ground}
 use Rattle.server_nodes.proofs.DigitLemmas.{session_form}
 use Rattle.server_nodes.proofs.StartLemmas.{has_started}
 use Rattle.server_nodes.proofs.KeptStart.{fresh, logged, logged_kept, start_kept}
@@ -62,15 +63,24 @@ module _ (old : Image) (state : PlainState) (is : IsKept old state) (name : List
 
     -- ---- the nodes are changed
 
+    ground_started : (new : Image) → OthersStay store.name made new → HasApplied (start_ops store.nodes name number) store new → IsStartedGround name is.reading is.catalog is.known state new
+    ground_started new others applied =
+        let started : HasStarted name number is.known.nodes applied.after =
+        subst (λ nodes. HasStarted name number nodes applied.after) same_nodes (has_started store.nodes name number applied.after drawn.next applied.applies) in
+        record {
+          number = number;
+          drawn = known_drawn number drawn;
+          fresh = fresh is.reading is.catalog is.known state is.kept number (known_drawn number drawn);
+          nodes = applied.after;
+          started = started;
+          of = nodes_changed made new told applied.after made_told (subst (λ n. OthersStay n made new) named others) (subst (λ n. HasNodes n new applied.after) named applied.has);
+          kept = start_kept is.reading is.catalog is.known state is.kept number (known_drawn number drawn) name applied.after started;
+        }
+
     nodes_started : (new : Image) → OthersStay store.name made new → HasApplied (start_ops store.nodes name number) store new → IsKept new state
-    nodes_started new others applied = record {
-      known = with_nodes told applied.after;
-      of = nodes_changed made new told applied.after made_told (subst (λ n. OthersStay n made new) named others) (subst (λ n. HasNodes n new applied.after) named applied.has);
-      reading = is.reading;
-      catalog = is.catalog;
-      kept = start_kept is.reading is.catalog is.known state is.kept number (known_drawn number drawn) name applied.after
-          (subst (λ nodes. HasStarted name number nodes applied.after) same_nodes (has_started store.nodes name number applied.after drawn.next applied.applies));
-    }
+    nodes_started new others applied =
+        let ground = ground_started new others applied in
+        record { known = started_ground is.known ground.number ground.nodes; of = ground.of; reading = is.reading; catalog = is.catalog; kept = ground.kept }
 
     nodes_stayed : (new : Image) → OthersStay store.name made new → KeepsNodes store.name store.nodes made new → IsKept new state
     nodes_stayed new others keeps = record {
@@ -80,6 +90,9 @@ module _ (old : Image) (state : PlainState) (is : IsKept old state) (name : List
       catalog = is.catalog;
       kept = logged_kept is.reading is.catalog is.known state is.kept number (known_drawn number drawn);
     }
+
+  pub start_leaves : (new : Image) → Starts name store old new → IsStartedGround name is.reading is.catalog is.known state new
+  start_leaves new starts = ground_started starts.number starts.drawn starts.made starts.log new starts.gives.others (starts.gives.nodes (made_stored starts.number starts.drawn starts.made starts.log))
 
   pub start_keeps : (new : Image) → Starts name store old new → IsKept new state
   start_keeps new starts = nodes_started starts.number starts.drawn starts.made starts.log new starts.gives.others (starts.gives.nodes (made_stored starts.number starts.drawn starts.made starts.log))

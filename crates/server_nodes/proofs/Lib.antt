@@ -1,8 +1,8 @@
 pub mod DigitLemmas
-mod PutLemmas
+pub mod PutLemmas
 pub mod StartLemmas
 mod StartActs
 mod ClearLemmas
 mod KeptStart
 mod KeptImages
-mod KeptGone
+pub mod KeptGone

@@ -2,3 +2,4 @@ pub mod Sessions
 pub mod Starting
 pub mod Started
 pub mod Ending
+pub mod Grounds
