@@ -9,3 +9,4 @@ pub mod Prefixes
 pub mod RootReads
 pub mod LackLemmas
 pub mod NoReadings
+pub mod NameLemmas

@@ -124,6 +124,18 @@ ReadCause known (MetadataLacks end untold) = HasLackingMetadata known end untold
 ReadCause known (BadUsers row) = HasBadUsers known row
 ReadCause known NoMemory = Unit {0}
 
+-- why the nodes give no record of the root tablet; want of memory is free
+abbrev pub RootCause : Nodes → ReadFault → Type 0
+RootCause nodes NoRoot = HasNoRoot nodes
+RootCause nodes LongRoot = HasLongRoot nodes
+RootCause nodes (BoundedRoot low) = ⊥
+RootCause nodes (RootLacks untold) = ⊥
+RootCause nodes (BadMetadata row) = ⊥
+RootCause nodes NoChain = ⊥
+RootCause nodes (MetadataLacks end untold) = ⊥
+RootCause nodes (BadUsers row) = ⊥
+RootCause nodes NoMemory = Unit {0}
+
 -- the ground has no reading
 pub record HasNoReading (known : Ground) : Type 0 where
   pub none : (reading : Reading) → IsReadingOf known reading → ⊥

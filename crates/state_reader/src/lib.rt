@@ -32,6 +32,7 @@ pub use name_map::NameMap;
 pub use reading::read;
 pub use reading_level::read_level;
 pub use records::{is_of_kind, read_record, tablet_at};
+pub use root::root_record;
 pub use still::{Mutations, StillGround};
 pub use store_reading::{ChainFault, ReadFault, StoreReading, Untold};
 pub use tablet_cells::{content, logs_of};

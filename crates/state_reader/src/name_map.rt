@@ -44,6 +44,18 @@ impl<F: Form, V: Drop> NameMap<F, V> {
         self.entries.get(name)
     }
 
+    /// What the name of these bytes has, if anything; nothing where they are no name. Takes time with the entries.
+    pub fn get_bytes(&self, name: &[u8]) -> Option<&V>
+        ensures { option_copied result ≡ map.get self.now name.now }
+    {
+        for (key, value) in self.entries.iter() {
+            if key.as_bytes() == name {
+                return Some(value);
+            }
+        }
+        None
+    }
+
     /// Gives the name this value. At want of memory the map is as it was.
     pub fn insert(&mut self, name: Spelled<F>, value: V) -> Result<(), AllocError>
         ensures ok { OnOk result (self.new ≡ map.insert self.old name value) }

@@ -1,5 +1,5 @@
 // The record of the root tablet.
-ghost use Rattle.std.specs.Prelude.{◌≡◌, ◌≢◌, ◌<◌, ◌^◌, length, None, IfOk, IfErr, IsSome, MatchBool, MatchOption};
+ghost use Rattle.std.specs.Prelude.{◌≡◌, ◌≢◌, ◌<◌, ◌^◌, length, None, IfOk, IfErr, IsSome, IsErr, MatchBool, MatchOption};
 ghost use Rattle.std.specs.List.{All};
 ghost use Rattle.row_keys.specs.MetadataRow.{metadata_row};
 ghost use Rattle.metadata_schema.specs.Refusals.{IsTabletRow};
@@ -7,13 +7,14 @@ ghost use Rattle.store_layout.specs.Nodes.{root_path};
 ghost use Rattle.store_meaning.specs.Levels.{root_id, IsRootRecord};
 ghost use Rattle.state_reader.specs.Still.{ground_of};
 ghost use Rattle.state_reader.specs.Roots.{IsRootValue, IsNoRootValue, SpellsColumns};
-ghost use Rattle.state_reader.specs.Reads.{ReadCause};
+ghost use Rattle.state_reader.specs.Reads.{ReadCause, RootCause, HasLongRoot};
 
 use crate::records::is_no_memory;
 use crate::still::StillGround;
 use crate::store_reading::ReadFault;
 use log_files::take_updates;
 use metadata_schema::{TabletRecord, Update, record_of};
+use node_store::NodeStore;
 use row_keys::{Path, Row, TableId, metadata_row};
 use std::alloc::{AllocError, Global};
 
@@ -95,13 +96,16 @@ fn root_path(alloc: Global) -> Result<Path, AllocError>
     Ok(path.unwrap())
 }
 
-/// The record of the root tablet, as the node `/root` has it.
-pub fn read_root(alloc: Global, still: &StillGround) -> Result<TabletRecord, ReadFault>
-    ensures ok { IfOk result (IsRootRecord still.now.nodes.nodes) }
-    ensures cause { IfErr result (ReadCause (ground_of still.now)) }
+/// The record of the root tablet, as the node `/root` has it. `NoRoot` comes exactly where it has none, but for a value of 2^32 bytes
+/// or more, of which `LongRoot` tells; beside these there is want of memory alone. Takes memory for the record, and time with the
+/// length of the value.
+pub fn root_record(alloc: Global, nodes: &NodeStore) -> Result<TabletRecord, ReadFault>
+    ensures ok { IfOk result (IsRootRecord nodes.now.nodes) }
+    ensures cause { IfErr result (RootCause nodes.now.nodes) }
+    ensures long { HasLongRoot nodes.now.nodes → IsErr result }
 {
     let path = root_path(alloc)?;
-    let Some(node) = still.nodes.get(&path) else {
+    let Some(node) = nodes.get(&path) else {
         return Err(ReadFault::NoRoot);
     };
     let value = node.value.as_bytes();
@@ -112,4 +116,12 @@ pub fn read_root(alloc: Global, still: &StillGround) -> Result<TabletRecord, Rea
         Some(root) => Ok(root),
         None => Err(ReadFault::NoRoot),
     }
+}
+
+/// The record of the root tablet, as the nodes of a ground have it.
+pub fn read_root(alloc: Global, still: &StillGround) -> Result<TabletRecord, ReadFault>
+    ensures ok { IfOk result (IsRootRecord still.now.nodes.nodes) }
+    ensures cause { IfErr result (ReadCause (ground_of still.now)) }
+{
+    root_record(alloc, &still.nodes)
 }
