@@ -1,6 +1,6 @@
 // Tables put into a plain state.
-ghost use Rattle.std.specs.Prelude.{◌≡◌, [], ◌∷◌, ◌++◌, IfOk, IfErr, OnOk};
-ghost use Rattle.plain_model.specs.Apply.{put_table as with_put};
+ghost use Rattle.std.specs.Prelude.{◌≡◌, [], ◌∷◌, ◌++◌, false, IfOk, IfErr, OnOk};
+ghost use Rattle.plain_model.specs.Apply.{put_table as with_put, has_name};
 ghost use Rattle.level_rows.specs.Chain.{rows_of};
 ghost use Rattle.state_reader.specs.Still.{ground_of};
 ghost use Rattle.plain_reader.specs.Tables.{ends_of, bare_table, PutsTable, NameCause, PutCause};
@@ -44,6 +44,7 @@ fn create(
     state: &mut PlainStore,
 ) -> Result<(), PutFault>
     ensures ok { OnOk result (state.new ≡ with_put node.now.id (bare_table node.now.name splits) state.old) }
+    ensures free { OnOk result (has_name node.now.name state.old ≡ false) }
     ensures cause { IfErr result (NameCause node.now.name state.old) }
 {
     let op = Op::Create {
@@ -61,7 +62,7 @@ fn create(
 /// Puts a table into a state as the ground stands for it, in place of one with its id: its name, its split points, and the newest of its
 /// cells with the files of an import mark over those of the tablets that lack it. The records are those of its level.
 ///
-/// `NameTaken` comes only where a table of the state has the name; each other fault but want of memory only where the ground has no
+/// `NameTaken` comes only where a table of the state has the name, and there `Ok` never comes; each other fault but want of memory only where the ground has no
 /// such table, and names what is to blame. Behind a fault the table may be in the state with some of its pairs. Takes memory for
 /// copies of the cells, and time with the square of their number.
 pub fn put_table(
@@ -72,6 +73,7 @@ pub fn put_table(
     state: &mut PlainStore,
 ) -> Result<(), PutFault>
     ensures ok { OnOk result (PutsTable (ground_of still.now) (rows_of node.now.id records.now) node.now state.old state.new) }
+    ensures free { OnOk result (has_name node.now.name state.old ≡ false) }
     ensures cause { IfErr result (PutCause (ground_of still.now) (rows_of node.now.id records.now) node.now state.old) }
 {
     let parts = match table_parts(alloc, still, &node.id, records, &node.mark) {

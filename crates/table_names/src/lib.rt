@@ -23,5 +23,5 @@ pub use laws::{
     a_set_table_changes_that_table_alone, a_staged_file_is_told, a_told_table_is_among_all,
     drawn_ids_differ, names_stand_apart, names_stay_apart,
 };
-pub use staged_nodes::{staged, staged_files};
-pub use table_nodes::{table_by_id, table_by_name, tables};
+pub use staged_nodes::{files_at, staged, staged_files};
+pub use table_nodes::{table_by_id, table_by_name, tables, tables_at};

@@ -75,8 +75,9 @@ fn file_at(
     }
 }
 
-/// The staged files of the nodes of these paths, or none where one is no staged file's.
-fn files_at(
+/// The staged files of the nodes of these paths, each by its name and its path, one for each in their order, or none where one of the
+/// nodes is no staged file's. Takes memory for the files, and time with the logarithm of the number of nodes.
+pub fn files_at(
     alloc: Global,
     nodes: &NodeStore,
     paths: &[Path],

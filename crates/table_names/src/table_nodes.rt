@@ -67,8 +67,9 @@ fn table_at(alloc: Global, nodes: &NodeStore, path: &Path) -> Result<Option<Tabl
     }
 }
 
-/// The tables of the nodes of these paths, or none where one is no table's.
-fn tables_at(
+/// The tables of the nodes of these paths, one for each in their order, or none where one of the nodes is no table's. Takes memory
+/// for the tables, and time with the values of the nodes and the logarithm of the number of all.
+pub fn tables_at(
     alloc: Global,
     nodes: &NodeStore,
     paths: &[Path],
