@@ -18,7 +18,8 @@ use Rattle.store_meaning.specs.Content.{both_told, all_told, file_cells, log_cel
 use Rattle.store_meaning.specs.Flushes.{memory_of}
 use Rattle.store_meaning.proofs.ContentLemmas.{mapped}
 use Rattle.store_meaning.proofs.MemberLemmas.{both_parts}
-use Rattle.tablet_scan.specs.Scans.{AreNewestWithin, IsScan, IsMemoryOf}
+use Rattle.tablet_scan.specs.Files.{HoldAll}
+use Rattle.tablet_scan.specs.Scans.{AreNewestWithin, IsScan, IsMemoryOf, AreTabletCells, HaveSameLatest}
 use Rattle.tablet_scan.proofs.FilesLemmas.{told_is}
 
 -- the newest pairs depend on nothing but the latest cells
@@ -59,22 +60,45 @@ module _ (from to low high : Option Bytes) where
       ∙ ap (later (latest cells key)) (latest-kept (clipped from to memory) merged key is ∙ latest-clipped from to memory key near)
       ∙ sym (latest-append cells memory key))
 
+-- the content is what these cells have of the tablet's rows, and there their latest ones are those of the files and the memory
+record HasWithin (low : Option Bytes) (tablet : TabletRecord) (cells content : List Cell) : Type 0 where
+  all : List Cell
+  content_is : clipped low tablet.end all ≡ content
+  same : (key : Key) → is_within low tablet.end key.row ≡ true → latest cells key ≡ latest all key
+
+has_within : (image : Image) (known : Ground) (low : Option Bytes) (tablet : TabletRecord) (memory : Memory) (stored content : List Cell) → IsGroundOf image known → IsMemoryOf known low tablet memory
+    → content_of known low tablet ≡ Some content → HoldAll image tablet.files stored → HasWithin low tablet (stored ++ memory.cells) content
+has_within image known low tablet memory stored content ground mem e held =
+    let all = mapped (clipped low tablet.end) (both_told (all_told (file_cells known) tablet.files) (all_told (log_cells known tablet) (logs_of tablet))) content e in
+    let parts = both_parts (all_told (file_cells known) tablet.files) (all_told (log_cells known tablet) (logs_of tablet)) all.0 all.1 in
+    let files : stored ≡ parts.0 = told_is image known ground tablet.files stored parts.0 held parts.2 in
+    let logged = mapped (clipped low tablet.end) (all_told (log_cells known tablet) (logs_of tablet)) mem.logged mem.told in
+    let logs : logged.0 ≡ parts.1 = same_Some logged.0 parts.1 (sym logged.1 ∙ parts.3) in
+    let own : (key : Key) → is_within low tablet.end key.row ≡ true → latest memory.cells key ≡ latest parts.1 key =
+    λ key within. mem.latest_at key ∙ ap (λ l. latest l key) (sym logged.2) ∙ latest-clipped low tablet.end logged.0 key within ∙ ap (λ l. latest l key) logs in
+    record {
+      all = parts.0 ++ parts.1;
+      content_is = ap (clipped low tablet.end) (sym parts.4) ∙ all.2;
+      same = λ key within. latest-append stored memory.cells key ∙ (λ i. later (latest (files i) key) (own key within i)) ∙ sym (latest-append parts.0 parts.1 key);
+    }
+
 -- a scan gives the newest pairs of the tablet's content
 pub newest_of_content : (image : Image) (known : Ground) (low : Option Bytes) (tablet : TabletRecord) (memory : Memory) (from to : Option Bytes) (pairs : List Pair) (content : List Cell) → IsGroundOf image known → IsMemoryOf known low tablet memory
     → content_of known low tablet ≡ Some content → IsScan image low tablet memory from to pairs → AreNewestWithin from to content pairs
 newest_of_content image known low tablet memory from to pairs content ground mem e scan =
-    let all = mapped (clipped low tablet.end) (both_told (all_told (file_cells known) tablet.files) (all_told (log_cells known tablet) (logs_of tablet))) content e in
-    let parts = both_parts (all_told (file_cells known) tablet.files) (all_told (log_cells known tablet) (logs_of tablet)) all.0 all.1 in
-    let stored : scan.stored ≡ parts.0 = told_is image known ground tablet.files scan.stored parts.0 scan.files parts.2 in
-    let logged = mapped (clipped low tablet.end) (all_told (log_cells known tablet) (logs_of tablet)) mem.logged mem.told in
-    let logs : logged.0 ≡ parts.1 = same_Some logged.0 parts.1 (sym logged.1 ∙ parts.3) in
-    let whole : clipped low tablet.end (parts.0 ++ parts.1) ≡ content = ap (clipped low tablet.end) (sym parts.4) ∙ all.2 in
-    let own : (key : Key) → is_within low tablet.end key.row ≡ true → latest memory.cells key ≡ latest parts.1 key =
-    λ key within. mem.latest_at key ∙ ap (λ l. latest l key) (sym logged.2) ∙ latest-clipped low tablet.end logged.0 key within ∙ ap (λ l. latest l key) logs in
-    subst (λ l. AreNewestWithin from to l pairs) whole
-    (newest_inside from to low tablet.end (scan.stored ++ memory.cells) (parts.0 ++ parts.1) pairs
-    (λ key near within. latest-append scan.stored memory.cells key ∙ (λ i. later (latest (stored i) key) (own key within i)) ∙ sym (latest-append parts.0 parts.1 key))
-    scan.newest)
+    let has = has_within image known low tablet memory scan.stored content ground mem e scan.files in
+    subst (λ l. AreNewestWithin from to l pairs) has.content_is (newest_inside from to low tablet.end (scan.stored ++ memory.cells) has.all pairs (λ key near within. has.same key within) scan.newest)
+
+-- the cells of a tablet have the latest ones of its content
+pub latest_of_content : (image : Image) (known : Ground) (low : Option Bytes) (tablet : TabletRecord) (memory : Memory) (cells content : List Cell) → IsGroundOf image known → IsMemoryOf known low tablet memory
+    → content_of known low tablet ≡ Some content → AreTabletCells image low tablet memory cells → HaveSameLatest cells content
+latest_of_content image known low tablet memory cells content ground mem e is key =
+    let has = has_within image known low tablet memory is.stored content ground mem e is.files in
+    ap (λ l. latest l key) is.are ∙ by has (is_within low tablet.end key.row) refl ∙ ap (λ l. latest l key) has.content_is
+  where
+    by : (has : HasWithin low tablet (is.stored ++ memory.cells) content) (b : Bool) → is_within low tablet.end key.row ≡ b → latest (clipped low tablet.end (is.stored ++ memory.cells)) key ≡ latest (clipped low tablet.end has.all) key
+    by has true within = latest-clipped low tablet.end (is.stored ++ memory.cells) key within ∙ has.same key within ∙ sym (latest-clipped low tablet.end has.all key within)
+    by has false without = latest-clipped_outside low tablet.end (is.stored ++ memory.cells) key without ∙ sym (latest-clipped_outside low tablet.end has.all key without)
 
 -- the same cells in another order have the same latest ones
 pub same_latest : (a b : List Cell) → AreConsistent b → ((cell : Cell) → Contains a cell ↔ Contains b cell) → (key : Key) → latest a key ≡ latest b key

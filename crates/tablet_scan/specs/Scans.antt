@@ -15,6 +15,16 @@ use Rattle.tablet_scan.specs.Files.{HoldAll}
 abbrev pub AreNewestWithin : Option Bytes → Option Bytes → List Cell → List Pair → Type 0
 AreNewestWithin from to cells pairs = IsNewest (clipped from to cells) pairs
 
+-- The cells of the tablet's rows above `low`: those of its files and, behind them, those of its memory.
+pub record AreTabletCells (image : Image) (low : Option Bytes) (tablet : TabletRecord) (memory : Memory) (cells : List Cell) : Type 0 where
+  pub stored : List Cell
+  pub files : HoldAll image tablet.files stored
+  pub are : cells ≡ clipped low tablet.end (stored ++ memory.cells)
+
+-- each key has the same latest cell
+abbrev pub HaveSameLatest : List Cell → List Cell → Type 0
+HaveSameLatest cells other = (key : Key) → latest cells key ≡ latest other key
+
 -- The newest pairs within (from, to] of the tablet's rows above `low`, by the cells of its files and, behind them, of its memory.
 pub record IsScan (image : Image) (low : Option Bytes) (tablet : TabletRecord) (memory : Memory) (from to : Option Bytes) (pairs : List Pair) : Type 0 where
   pub stored : List Cell
