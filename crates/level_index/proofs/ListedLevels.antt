@@ -26,7 +26,7 @@ use Rattle.level_index.specs.Entries.{LevelMap, level_of, record_in, is_candidat
 use Rattle.level_index.specs.Lists.{AreRecordsOf, AreCandidatesOf, AreFlagsOf}
 use Rattle.level_index.specs.Ranges.{record_of, candidate_of, flag_of as flag_in_entry}
 use Rattle.level_index.proofs.EntryLemmas.{named_test}
-use Rattle.level_index.proofs.LevelLemmas.{found, candidate_at, flag_at}
+use Rattle.level_index.proofs.LevelLemmas.{found, record_at, candidate_at, flag_at}
 use Rattle.level_index.proofs.ListLemmas.{Listed, picked, from_picked, in_picked, rises, each_entry, between_there, there_between, between_order}
 
 -- ---- what an entry gives
@@ -86,6 +86,7 @@ module _ (index : LevelMap) (is : IsLevelMap index.kind index.entries) (es : Lis
   pub records_listed : (table : List ℕ) → AreRecordsOf (level_of index) table (picked (record_of table) (entries_between path_cmp (first_of table) (last_of table) es))
   records_listed table = record {
     each = λ t. (to t, back t);
+    forms = λ end t at. (record_at index is table end t at).1;
     order = rises (record_of table) (λ (t : TabletRecord). t.end) end_cmp (λ (t : TabletRecord). metadata_row table t.end) (λ x y. sym (by_end_row table x.end y.end))
         (entries_between path_cmp (first_of table) (last_of table) es) (between_order es index.entries up made (first_of table) (last_of table))
         (each_entry _ _ (λ e there t at. (row e t (between_there es index.entries up made (first_of table) (last_of table) e there) at).0));

@@ -80,9 +80,9 @@ fn rows_of(alloc: Global, table: &TableId) -> Result<(Bound<Row>, Bound<Row>), A
 }
 
 impl LevelIndex {
-    /// The records of a table, in the order of their end rows, the last tablet's behind them all: that of the metadata rows.
-    /// `AllocError` comes only at want of memory. Takes memory for copies of them, and time with their number and the logarithm of
-    /// the rows.
+    /// The records of a table, in the order of their end rows, the last tablet's behind them all: that of the metadata rows. Each is
+    /// of its form, and stands at the row of its table and end row. `AllocError` comes only at want of memory. Takes memory for
+    /// copies of them, and time with their number and the logarithm of the rows.
     pub fn records_of(
         &self,
         alloc: Global,

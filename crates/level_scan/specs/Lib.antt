@@ -1,0 +1,4 @@
+pub mod Tablets
+pub mod Reads
+pub mod Causes
+pub mod Levels
