@@ -1,0 +1,5 @@
+pub mod ActLemmas
+pub mod LogLemmas
+pub mod RootLemmas
+pub mod KeptRoot
+pub mod UpdateLemmas

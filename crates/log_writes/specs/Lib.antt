@@ -1,0 +1,4 @@
+pub mod Answers
+pub mod Logging
+pub mod Setting
+pub mod Updating
