@@ -1,0 +1,5 @@
+mod TextLemmas
+mod PathLemmas
+pub mod DrawLemmas
+mod PutActs
+mod KeptFiles
