@@ -22,15 +22,16 @@ use Rattle.server_list.specs.Servers.{Servers, is_named, is_of_session, is_live,
 use Rattle.server_nodes.specs.Sessions.{log_of, log_path, server_path}
 use Rattle.server_nodes.specs.Started.{HasValue}
 use Rattle.server_nodes.specs.Grounds.{IsGroundWithout}
-use Rattle.server_nodes.proofs.KeptGone.{servers_go}
+use Rattle.server_nodes.proofs.KeptGone.{OnlyServersGo, servers_go}
 use Rattle.server_nodes.proofs.PutLemmas.{not_same}
 use Rattle.cluster_state.specs.Value.{ClusterValue}
 use Rattle.cluster_state.specs.Served.{IsCluster}
-use Rattle.cluster_state.specs.Station.{IsStationOf, row_of}
+use Rattle.cluster_state.specs.Station.{IsStationOf, HasOpenLog, row_of}
 use Rattle.cluster_state.specs.Ending.{EndsServer}
 use Rattle.cluster_state.proofs.ServerLists.{each_killed, apart_killed, each_left, apart_left, gone_left, listed_session}
 use Rattle.cluster_state.proofs.Hosts.{ended_was, ended_is}
 use Rattle.cluster_state.proofs.ToldLemmas.{has_same}
+use Rattle.cluster_state.proofs.OpenLogs.{sorted_path, still_open}
 
 -- ---- the server of a name
 
@@ -132,15 +133,18 @@ module _ {H : Type 0} (state : H → HostState) (reading : Reading) (catalog : C
   abbrev now : Ground
   now = with_nodes known ground.nodes
 
-  log_stays : (session : List ℕ) → map.get ground.nodes (log_path session) ≡ map.get known.nodes (log_path session)
-  log_stays session = (servers_go (server_path name ∷ []) known.nodes ground.nodes (refl, tt) ground.gone).others (log_path session) refl
+  others_go : OnlyServersGo known.nodes ground.nodes
+  others_go = servers_go (server_path name ∷ []) known.nodes ground.nodes (refl, tt) ground.gone
+
+  log_stays : (session : List ℕ) → HasOpenLog known.nodes session → HasOpenLog ground.nodes session
+  log_stays session = still_open known.nodes ground.nodes session (others_go.others (log_path session) refl) (others_go.others (sorted_path (log_of session)) refl)
 
   pub ended_station : IsStationOf state new reading catalog now plain
   ended_station = subst (λ c. IsStationOf state c reading catalog now plain) (sym ends.rest) (record {
     runs = runs;
     of = ground.of;
     kept = ground.kept;
-    logs = λ server there. (let was = is.logs server (each_left name old.servers.list server there) in record { node = was.node; there = log_stays server.session ∙ was.there; is = was.is });
+    logs = λ server there. log_stays server.session (is.logs server (each_left name old.servers.list server there));
     metadata = is.metadata;
     users = is.users;
     memories = record {

@@ -4,6 +4,8 @@ mod Hosts
 mod Keeps
 mod Running
 mod ToldLemmas
+mod OpenLogs
+mod Moved
 mod Stations
 mod Started
 mod Going
@@ -11,3 +13,8 @@ mod Results
 mod Opened
 mod Starts
 mod Written
+mod Drawn
+mod Aside
+mod Passed
+mod Removed
+mod Changed

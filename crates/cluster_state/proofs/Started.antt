@@ -1,5 +1,5 @@
 -- Stations in which a server starts.
-use Rattle.std.proofs.Common.{◌≡◌, ◌≢◌, inl, inr, ℕ, Bool, true, false, cond, ◌||◌, get_or, List, [], ◌∷◌, drop, Option, Some, None, IsSome, refl, sym, ◌∙◌, ap, subst, arith}
+use Rattle.std.proofs.Common.{◌≡◌, inl, inr, ℕ, Bool, true, false, cond, ◌||◌, List, [], ◌∷◌, codes, drop, Option, Some, None, IsSome, refl, sym, ◌∙◌, ap, subst}
 use Rattle.std.specs.FinMap as map
 use Rattle.std.specs.FinMap.{get-insert}
 use Rattle.std.specs.List.{Contains, list_any}
@@ -16,12 +16,11 @@ use Rattle.level_rows.specs.Chain.{Rows}
 use Rattle.level_rows.proofs.EndLemmas.{same-true, same-refl}
 use Rattle.level_rows.proofs.Membership.{Contains-cons_cases, Contains-nil}
 use Rattle.log_files.specs.Value.{LogValue}
-use Rattle.node_store.specs.Nodes.{Nodes}
 use Rattle.store_layout.specs.Nodes.{IsNext, next_session_path}
 use Rattle.store_layout.specs.Tables.{Catalog}
 use Rattle.store_meaning.specs.Ground.{Ground}
 use Rattle.store_meaning.specs.Levels.{Reading}
-use Rattle.store_meaning.specs.InUse.{IsNamedLog}
+use Rattle.store_meaning.specs.InUse.{IsNamedLog, IsListedSorted}
 use Rattle.kept_meaning.proofs.DrawnLemmas.{one_next}
 use Rattle.server_list.specs.declared.entry.ServerEntry.{ServerEntry}
 use Rattle.server_list.specs.Servers.{Servers, is_named, is_listed, started}
@@ -31,38 +30,20 @@ use Rattle.server_nodes.specs.Grounds.{IsStartedGround, started_ground}
 use Rattle.ground_store.specs.Value.{GroundValue}
 use Rattle.cluster_state.specs.Value.{ClusterValue}
 use Rattle.cluster_state.specs.Served.{AreApart, IsCluster, IsServed}
-use Rattle.cluster_state.specs.Station.{IsStationOf, IsTabletOf, row_of}
+use Rattle.cluster_state.specs.Station.{IsStationOf, IsTabletOf, HasOpenLog, row_of}
 use Rattle.cluster_state.specs.Starting.{StartsIn, StartsServer}
 use Rattle.cluster_state.proofs.ServerLists.{same_or_not, apart_behind}
 use Rattle.cluster_state.proofs.Hosts.{started_was, started_is}
 use Rattle.cluster_state.proofs.ToldLemmas.{is_record, has_same}
+use Rattle.cluster_state.proofs.OpenLogs.{sorted_path, log_no_counter, server_no_counter, sorted_no_counter, log_no_server, sorted_no_log, sorted_no_server, still_has, still_open}
 
-abbrev second : List ℕ → ℕ
-second path = get_or path 1 0
-
--- ---- paths
-
-log_no_session : (session : List ℕ) → log_path session ≢ next_session_path
-log_no_session session at = let n : 108 ≡ 110 = ap second at in omega (arith, n)
-
-log_no_server : (session name : List ℕ) → log_path session ≢ server_path name
-log_no_server session name at = let n : 108 ≡ 115 = ap second at in omega (arith, n)
-
-server_no_session : (name : List ℕ) → server_path name ≢ next_session_path
-server_no_session name at = let n : 115 ≡ 110 = ap second at in omega (arith, n)
-
-server_no_log : (name session : List ℕ) → server_path name ≢ log_path session
-server_no_log name session at = log_no_server session name (sym at)
+-- ---- names
 
 log_in_path : (a b : List ℕ) → log_path a ≡ log_path b → a ≡ b
 log_in_path a b at = ap (drop 6) at
 
 name_in_path : (a b : List ℕ) → server_path a ≡ server_path b → a ≡ b
 name_in_path a b at = ap (drop 9) at
-
--- the value of a path that stays
-pub still_has : (old new : Nodes) (path value : List ℕ) → map.get new path ≡ map.get old path → HasValue old path value → HasValue new path value
-still_has old new path value stays has = record { node = has.node; there = stays ∙ has.there; is = has.is }
 
 -- a listed server has another name than one that isn't listed
 other_name : (name : List ℕ) (servers : List ServerEntry) (server : ServerEntry) → list_any (is_named name) servers ≡ false → Contains servers server → same name server.name ≡ false
@@ -116,7 +97,7 @@ module _ {H : Type 0} (name : List ℕ) (old new : GroundValue H) (servers after
       let served = was.served server there in
       record {
         node = still_has old.nodes.nodes new.nodes.nodes (server_path server.name) server.session
-            (nodes_now.others (server_path server.name) (server_no_session server.name) (server_no_log server.name (session_of starts.drawn.number))
+            (nodes_now.others (server_path server.name) (server_no_counter server.name (codes "session")) (λ at. log_no_server (session_of starts.drawn.number) server.name (sym at))
             (λ at. (let wrong : true ≡ false = sym (same_self name server.name (name_in_path server.name name at)) ∙ other_name name servers.list server unlisted there in cc)))
             served.node;
         log = log_there (log_of server.session) served.log;
@@ -174,16 +155,33 @@ module _ {H : Type 0} (state : H → HostState) (reading : Reading) (catalog : C
       (λ here. absurd (ground.fresh.holder (record { tablet = tablet; of = is_record reading rows tablet of; holder = holder; there = inl at; is = same-true holder.session starts.starts.session here ∙ session_is })))
       (λ no. no)
 
-  logs_listed : (server : ServerEntry) → Contains (started name starts.starts.session old.servers).list server → HasValue now.nodes (log_path server.session) (log_of server.session)
-  logs_listed server there = elim (Contains-append_cases old.servers.list (record { name = name; session = starts.starts.session; expires = None } ∷ []) server there) [
-    | inl front ↦ (let was = is.logs server front in
-        still_has known.nodes ground.nodes (log_path server.session) (log_of server.session)
-        (ground.started.others (log_path server.session) (log_no_session server.session)
-        (λ at. ground.fresh.log (record { node = was.node; there = subst (λ s. map.get known.nodes (log_path s) ≡ Some was.node) (log_in_path server.session (session_of ground.number) at) was.there }))
-        (log_no_server server.session name))
-        was)
+  -- the session's log isn't sorted
+  never_sorted : IsListedSorted known.nodes (log_of (session_of ground.number)) → ⊥
+  never_sorted sorted = ground.fresh.in_use (inr (inr sorted))
+
+  sorted_stays : (log : List ℕ) → map.get ground.nodes (sorted_path log) ≡ map.get known.nodes (sorted_path log)
+  sorted_stays log = ground.started.others (sorted_path log) (sorted_no_counter log (codes "session")) (sorted_no_log log (session_of ground.number)) (sorted_no_server log name)
+
+  -- the log of another session stays
+  others_open : (session : List ℕ) → HasOpenLog known.nodes session → HasOpenLog ground.nodes session
+  others_open session was = still_open known.nodes ground.nodes session
+      (ground.started.others (log_path session) (log_no_counter session (codes "session"))
+      (λ at. ground.fresh.log (record { node = was.listed.node; there = subst (λ s. map.get known.nodes (log_path s) ≡ Some was.listed.node) (log_in_path session (session_of ground.number) at) was.listed.there }))
+      (log_no_server session name))
+      (sorted_stays (log_of session))
+      was
+
+  opened : HasOpenLog ground.nodes (session_of ground.number)
+  opened = record {
+    listed = ground.started.log;
+    unsorted = λ sorted. never_sorted (record { node = sorted.node; there = sym (sorted_stays (log_of (session_of ground.number))) ∙ sorted.there });
+  }
+
+  logs_open : (server : ServerEntry) → Contains (started name starts.starts.session old.servers).list server → HasOpenLog now.nodes server.session
+  logs_open server there = elim (Contains-append_cases old.servers.list (record { name = name; session = starts.starts.session; expires = None } ∷ []) server there) [
+    | inl front ↦ others_open server.session (is.logs server front)
     | inr behind ↦ elim (Contains-cons_cases (record { name = name; session = starts.starts.session; expires = None }) server [] behind) [
-      | inl at ↦ subst (λ (s : ServerEntry). HasValue now.nodes (log_path s.session) (log_of s.session)) at (subst (λ s. HasValue now.nodes (log_path s) (log_of s)) (sym session_is) ground.started.log)
+      | inl at ↦ subst (λ (s : ServerEntry). HasOpenLog now.nodes s.session) at (subst (HasOpenLog now.nodes) (sym session_is) opened)
       | inr none ↦ absurd (Contains-nil server none)
     ]
   ]
@@ -196,7 +194,7 @@ module _ {H : Type 0} (state : H → HostState) (reading : Reading) (catalog : C
     runs = runs;
     of = ground.of;
     kept = ground.kept;
-    logs = logs_listed;
+    logs = logs_open;
     metadata = is.metadata;
     users = is.users;
     memories = record {

@@ -14,15 +14,13 @@ use Rattle.store_meaning.specs.Ground.{Ground, IsGroundOf}
 use Rattle.store_meaning.specs.Levels.{Reading}
 use Rattle.server_list.specs.declared.entry.ServerEntry.{ServerEntry}
 use Rattle.server_list.specs.Servers.{ticked, killed, ticks_to_expiry}
-use Rattle.server_nodes.specs.Sessions.{log_of, log_path}
-use Rattle.server_nodes.specs.Started.{HasValue}
 use Rattle.hosted_memories.specs.declared.hosting.Hosting.{Hosting}
 use Rattle.hosted_memories.specs.Hosted.{of_others}
 use Rattle.cluster_state.specs.Value.{ClusterValue}
 use Rattle.cluster_state.specs.Served.{AreApart}
 use Rattle.ground_store.specs.Acts.{Acts, GoesOn, Unless}
 use Rattle.ground_store.specs.Steps.{Stays}
-use Rattle.cluster_state.specs.Station.{IsStationOf, IsTabletOf, IsHosted, HasMemory, StaysStation, row_of}
+use Rattle.cluster_state.specs.Station.{IsStationOf, IsTabletOf, IsHosted, HasMemory, HasOpenLog, StaysStation, row_of}
 use Rattle.cluster_state.specs.Killing.{KillsServer}
 use Rattle.cluster_state.proofs.ServerLists.{same_or_not, each_killed}
 use Rattle.cluster_state.proofs.Hosts.{hosted_by, hosted_or_not, ticked_was, ticked_is, killed_was, killed_is, killed_elsewhere}
@@ -75,10 +73,10 @@ module _ {H : Type 0} (state : H → HostState) (reading : Reading) (catalog : C
         (λ no. kills.hosted (row_of tablet) ∙ ap (of_others dead.session) (is.memories.away rows tablet of no))
         (hosted_or_not old.servers tablet)
 
-    logs_still : (server : ServerEntry) → Contains (killed name old.servers).list server → HasValue known.nodes (log_path server.session) (log_of server.session)
+    logs_still : (server : ServerEntry) → Contains (killed name old.servers).list server → HasOpenLog known.nodes server.session
     logs_still server there =
         let was = each_killed name (old.servers.clock + ticks_to_expiry) old.servers.list server there in
-        subst (λ s. HasValue known.nodes (log_path s) (log_of s)) (sym was.session) (is.logs was.was was.there)
+        subst (HasOpenLog known.nodes) (sym was.session) (is.logs was.was was.there)
 
     pub killed_station : IsStationOf state new reading catalog known plain
     killed_station = subst (λ c. IsStationOf state c reading catalog known plain) (sym kills.rest) (record {
@@ -118,3 +116,10 @@ reads_station state stop old new acts beside faithful reading catalog known plai
     (subst (λ s. GoesOn s new.base.stopped (state old.base.host) (state new.base.host)) none goes.goes_on)
     (subst (λ s. Unless s (Stays (state old.base.host).files (state new.base.host).files)) none (goes.done faithful))
     is)
+
+-- so does one that leaves the files
+pub stays_station : {H : Type 0} (state : H → HostState) (stop : Option Stop) (old new : ClusterValue H) → new ≡ record old { base = new.base }
+    → (old.base.stopped ≡ None → GoesOn stop new.base.stopped (state old.base.host) (state new.base.host) × ((state new.base.host).files ≡ (state old.base.host).files)) → StaysStation state stop old new
+stays_station state stop old new beside went reading catalog known plain is = unless stop (IsStationOf state new reading catalog known plain) (λ none.
+    let goes = went is.runs in
+    same_station state reading catalog known plain old new beside (subst (λ s. GoesOn s new.base.stopped (state old.base.host) (state new.base.host)) none goes.0) goes.1 is)

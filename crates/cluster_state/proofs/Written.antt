@@ -1,5 +1,5 @@
 -- Stations in which a data file is written under a drawn name.
-use Rattle.std.proofs.Common.{◌≡◌, ◌≢◌, inl, ℕ, Bool, true, false, cond, get_or, is_some, List, Option, Some, None, Result, Ok, Err, IfOk, refl, sym, ◌∙◌, ap, subst, arith}
+use Rattle.std.proofs.Common.{◌≡◌, inl, ℕ, Bool, true, false, cond, is_some, List, codes, Some, None, Result, Ok, Err, IfOk, refl, sym, ◌∙◌, ap, subst}
 use Rattle.std.specs.FinMap as map
 use Rattle.std.proofs.lemmas.Option.{none-some}
 use Rattle.host_model.specs.Picture.{Image}
@@ -9,7 +9,7 @@ use Rattle.plain_model.specs.State.{PlainState}
 use Rattle.metadata_schema.specs.Bytes.{same}
 use Rattle.cell_merge.specs.declared.cell.Cell.{Cell}
 use Rattle.level_rows.proofs.EndLemmas.{same-true}
-use Rattle.store_layout.specs.Nodes.{next_name_path}
+use Rattle.node_store.specs.Nodes.{Nodes}
 use Rattle.store_layout.specs.Tables.{Catalog}
 use Rattle.store_meaning.specs.Ground.{Ground}
 use Rattle.store_meaning.specs.Levels.{Reading}
@@ -26,30 +26,27 @@ use Rattle.new_files.specs.Written.{IsNewFile, IsWrittenIn, with_file}
 use Rattle.new_files.proofs.DrawLemmas.{raises}
 use Rattle.cluster_state.specs.Value.{ClusterValue}
 use Rattle.cluster_state.specs.Served.{IsCluster}
-use Rattle.cluster_state.specs.Station.{IsStationOf, row_of}
-use Rattle.cluster_state.proofs.Started.{still_has}
-use Rattle.cluster_state.proofs.ToldLemmas.{has_same}
-
-abbrev second : List ℕ → ℕ
-second path = get_or path 1 0
-
-log_no_name : (session : List ℕ) → log_path session ≢ next_name_path
-log_no_name session at = let n : 108 ≡ 110 = ap second at in omega (arith, n)
-
-server_no_name : (name : List ℕ) → server_path name ≢ next_name_path
-server_no_name name at = let n : 115 ≡ 110 = ap second at in omega (arith, n)
+use Rattle.cluster_state.specs.Station.{IsStationOf, HasOpenLog}
+use Rattle.cluster_state.proofs.OpenLogs.{sorted_path, log_no_counter, server_no_counter, sorted_no_counter, still_has, still_open}
+use Rattle.cluster_state.proofs.Moved.{moved_station}
 
 -- the servers have their nodes and logs still
-drawn_cluster : {H : Type 0} (old new : GroundValue H) (servers : Servers) (number : ℕ) → HasDrawn number old.nodes.nodes new.nodes.nodes → new.logs ≡ old.logs → IsCluster old servers → IsCluster new servers
+pub drawn_cluster : {H : Type 0} (old new : GroundValue H) (servers : Servers) (number : ℕ) → HasDrawn number old.nodes.nodes new.nodes.nodes → new.logs ≡ old.logs → IsCluster old servers → IsCluster new servers
 drawn_cluster old new servers number drawn logs is = record {
   served = λ server there.
       let own = is.served server there in
       record {
-        node = still_has old.nodes.nodes new.nodes.nodes (server_path server.name) server.session ((raises old.nodes.nodes new.nodes.nodes number drawn).others (server_path server.name) (server_no_name server.name)) own.node;
+        node = still_has old.nodes.nodes new.nodes.nodes (server_path server.name) server.session ((raises old.nodes.nodes new.nodes.nodes number drawn).others (server_path server.name) (server_no_counter server.name (codes "name"))) own.node;
         log = ap (λ l. is_some (map.get l (log_of server.session))) logs ∙ own.log;
       };
   apart = is.apart;
 }
+
+-- a log is open still
+pub drawn_open : (old new : Nodes) (number : ℕ) → HasDrawn number old new → (session : List ℕ) → HasOpenLog old session → HasOpenLog new session
+drawn_open old new number drawn session = still_open old new session
+    ((raises old new number drawn).others (log_path session) (log_no_counter session (codes "name")))
+    ((raises old new number drawn).others (sorted_path (log_of session)) (sorted_no_counter (log_of session) (codes "name")))
 
 -- so where the file was written; where it wasn't, the ground has stopped
 pub file_cluster : {H : Type 0} (state : H → HostState) {D A : Image → Image → Type 0} (table dir : List ℕ) (kind : FileKind) (cells : List Cell) (old new : GroundValue H) (servers : Servers) (result : Result NewFile Stop) → Acts state D A (stop_of result) old new
@@ -74,16 +71,8 @@ module _ {H : Type 0} (state : H → HostState) (reading : Reading) (catalog : C
       by false at = refl
 
   pub written_station : IsStationOf state new reading catalog now plain
-  written_station = subst (λ c. IsStationOf state c reading catalog now plain) (sym beside) (record {
-    runs = runs;
-    of = written.of;
-    kept = written.kept;
-    logs = λ server there. still_has known.nodes written.nodes (log_path server.session) (log_of server.session)
-        ((raises known.nodes written.nodes written.number written.drawn).others (log_path server.session) (log_no_name server.session)) (is.logs server there);
-    metadata = is.metadata;
-    users = is.users;
-    memories = record {
-      live = λ rows tablet of hosted. has_same reading known now told_still (λ log named. refl) rows tablet (map.get old.hosted (row_of tablet)) of (is.memories.live rows tablet of hosted);
-      away = is.memories.away;
-    };
-  })
+  written_station = moved_station state reading catalog known plain old new beside is runs now catalog plain
+      (record { files = told_still; logs = λ log named. refl })
+      (λ server there. drawn_open known.nodes written.nodes written.number written.drawn server.session (is.logs server there))
+      written.of
+      written.kept

@@ -6,3 +6,5 @@ pub mod Starting
 pub mod Killing
 pub mod Ending
 pub mod Events
+pub mod Passing
+pub mod Changing

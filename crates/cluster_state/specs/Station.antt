@@ -12,11 +12,12 @@ use Rattle.cell_merge.specs.declared.cell.Cell.{Cell}
 use Rattle.level_rows.specs.Chain.{Rows, effective_prev}
 use Rattle.tablet_mem.specs.Memory.{Memory, next_time}
 use Rattle.tablet_scan.specs.Scans.{IsMemoryOf}
+use Rattle.node_store.specs.Nodes.{Nodes}
 use Rattle.store_layout.specs.Tables.{Catalog}
 use Rattle.store_meaning.specs.Ground.{Ground, IsGroundOf}
 use Rattle.store_meaning.specs.Content.{tablet_content}
 use Rattle.store_meaning.specs.Levels.{Level, Reading, root_rows}
-use Rattle.store_meaning.specs.InUse.{IsOfLevel}
+use Rattle.store_meaning.specs.InUse.{IsOfLevel, IsListedSorted}
 use Rattle.store_meaning.specs.Kept.{IsKeptAs}
 use Rattle.state_reader.specs.declared.level.LevelKind.{LevelKind}
 use Rattle.state_reader.specs.declared.level.LevelKind.TheVariants.{Metadata, Users}
@@ -73,16 +74,21 @@ pub record TellsLevel (kind : LevelKind) (level : Level) (index : LevelMap) : Ty
   pub kind_is : index.kind ≡ kind
   pub is : level_of index ≡ level
 
--- the nodes list the log of each server
-abbrev pub AreLogsListed : Ground → List ServerEntry → Type 0
-AreLogsListed known servers = (server : ServerEntry) → Contains servers server → HasValue known.nodes (log_path server.session) (log_of server.session)
+-- the nodes list the session's log, and not as a sorted one, so that it may be appended to
+pub record HasOpenLog (nodes : Nodes) (session : List ℕ) : Type 0 where
+  pub listed : HasValue nodes (log_path session) (log_of session)
+  pub unsorted : IsListedSorted nodes (log_of session) → ⊥
+
+-- each server has such a log
+abbrev pub HaveOpenLogs : Ground → List ServerEntry → Type 0
+HaveOpenLogs known servers = (server : ServerEntry) → Contains servers server → HasOpenLog known.nodes server.session
 
 -- It hasn't stopped, its files are kept, read as this reading, and stand for the plain state; and what it has in memory is what they tell.
 pub record IsStationOf {H : Type 0} (state : H → HostState) (cluster : ClusterValue H) (reading : Reading) (catalog : Catalog) (known : Ground) (plain : PlainState) : Type 0 where
   pub runs : cluster.base.stopped ≡ None
   pub of : IsGroundOf (state cluster.base.host).files known
   pub kept : IsKeptAs reading catalog known plain
-  pub logs : AreLogsListed known cluster.servers.list
+  pub logs : HaveOpenLogs known cluster.servers.list
   pub metadata : IfSome cluster.metadata (TellsLevel Metadata reading.metadata)
   pub users : IfSome cluster.users (TellsLevel Users reading.users)
   pub memories : HasMemories known reading cluster.servers cluster.hosted

@@ -5,11 +5,14 @@
 //! are in one process, and the clock, are this project's own.
 #![tactic(auto)]
 
+mod asking;
+mod changing;
 mod cluster;
 mod ending;
 mod entries;
 mod entry;
 mod opening;
+mod passing;
 mod reading;
 mod servers;
 mod speaking;

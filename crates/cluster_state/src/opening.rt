@@ -1,12 +1,11 @@
 // How a cluster begins.
-ghost use Rattle.std.specs.Prelude.{◌≡◌, [], None, Ok, IfErr, IfOk, OnOk, IsTrue};
+ghost use Rattle.std.specs.Prelude.{◌≡◌, [], None, IfErr, IfOk, OnOk, IsTrue};
 ghost use Rattle.plain_model.specs.State.{PlainState};
-ghost use Rattle.node_store.specs.Nodes.{multi_applied};
 ghost use Rattle.store_layout.specs.Tables.{Catalog};
 ghost use Rattle.store_meaning.specs.Ground.{Ground as Known, IsGroundOf};
 ghost use Rattle.store_meaning.specs.Levels.{Reading};
 ghost use Rattle.store_meaning.specs.Kept.{IsKeptAs};
-ghost use Rattle.server_nodes.specs.Ending.{clear_ops, servers_in, TakeCause};
+ghost use Rattle.server_nodes.specs.Ending.{clear_ops, servers_in, without_servers, TakeCause};
 ghost use Rattle.server_nodes.specs.Grounds.{IsGroundWithout};
 ghost use Rattle.cluster_state.specs.Opening.{Opens, host_behind};
 ghost use Rattle.cluster_state.specs.Events.{KeepsStateFrom};
@@ -28,7 +27,7 @@ fn take_servers_out<H: Host>(alloc: Global, ground: &mut Ground<H>) -> Result<()
     ensures keeps { KeepsStateFrom (H.state ground.old.host) (H.state ground.new.host) }
     ensures left { IsTrue (H.state ground.old.host).is_faithful → (known : Known) (reading : Reading) (catalog : Catalog) (plain : PlainState) → IsGroundOf (H.state ground.old.host).files known → IsKeptAs reading catalog known plain
         → OnOk result (IsGroundWithout (servers_in ground.old.nodes.nodes) reading catalog known plain (H.state ground.new.host).files) }
-    ensures nodes { OnOk result (multi_applied (clear_ops ground.old.nodes.nodes) ground.old.nodes.nodes ≡ Ok ground.new.nodes.nodes) }
+    ensures nodes { OnOk result (ground.new.nodes.nodes ≡ without_servers ground.old.nodes.nodes) }
     ensures none { OnOk result (clear_ops ground.old.nodes.nodes ≡ [] → ground.new ≡ ground.old) }
     ensures name { ground.new.nodes.name ≡ ground.old.nodes.name }
     ensures logs { ground.new.logs ≡ ground.old.logs }
@@ -49,7 +48,7 @@ impl<H: Host> Cluster<H> {
     pub fn open(alloc: Global, mut ground: Ground<H>) -> Result<Cluster<H>, (Stop, H)>
         requires { ground.stopped ≡ None }
         ensures opens { IfOk result (Opens ground) }
-        ensures nodes { IfOk result (λ cluster. multi_applied (clear_ops ground.nodes.nodes) ground.nodes.nodes ≡ Ok cluster.base.nodes.nodes) }
+        ensures nodes { IfOk result (λ cluster. cluster.base.nodes.nodes ≡ without_servers ground.nodes.nodes) }
         ensures none { IfOk result (λ cluster. clear_ops ground.nodes.nodes ≡ [] → cluster.base ≡ ground) }
         ensures keeps { KeepsStateFrom (H.state ground.host) (H.state (host_behind result)) }
         ensures station { IsTrue (H.state ground.host).is_faithful → (known : Known) (reading : Reading) (catalog : Catalog) (plain : PlainState) → IsGroundOf (H.state ground.host).files known → IsKeptAs reading catalog known plain

@@ -62,10 +62,10 @@ module _ (old : Image) (reading : Reading) (catalog : Catalog) (known : Ground) 
   own_drawn number nodes drawn = subst (λ ns. HasDrawn number ns nodes) same_nodes drawn
 
   -- the nodes that an image with its number drawn has
-  applied_drawn : (number : ℕ) (made : Image) → IsDrawn store.nodes number → (applied : HasApplied (draw_ops next_name_path number) store made) → HasDrawn number known.nodes applied.after
+  pub applied_drawn : (number : ℕ) (made : Image) → IsDrawn store.nodes number → (applied : HasApplied (draw_ops next_name_path number) store made) → HasDrawn number known.nodes applied.after
   applied_drawn number made drawn applied = own_drawn number applied.after (has_drawn store.nodes applied.after number drawn applied.applies)
 
-  made_ground : (made : Image) (nodes : Nodes) → OthersStay store.name old made → HasNodes store.name made nodes → IsGroundOf made (with_nodes known nodes)
+  pub made_ground : (made : Image) (nodes : Nodes) → OthersStay store.name old made → HasNodes store.name made nodes → IsGroundOf made (with_nodes known nodes)
   made_ground made nodes others has = nodes_changed old made known nodes of (subst (λ n. OthersStay n old made) named others) (subst (λ n. HasNodes n made nodes) named has)
 
   number_drawn : (number : ℕ) (made : Image) → IsDrawn store.nodes number → OthersStay store.name old made → HasApplied (draw_ops next_name_path number) store made → IsKept made state
@@ -77,7 +77,7 @@ module _ (old : Image) (reading : Reading) (catalog : Catalog) (known : Ground) 
     kept = number_kept reading catalog known state kept number applied.after (applied_drawn number made drawn applied);
   }
 
-  nodes_stayed : (made : Image) → OthersStay store.name old made → HasNodes store.name made store.nodes → IsKept made state
+  pub nodes_stayed : (made : Image) → OthersStay store.name old made → HasNodes store.name made store.nodes → IsKept made state
   nodes_stayed made others has = record {
     known = with_nodes known known.nodes;
     of = made_ground made known.nodes others (subst (HasNodes store.name made) same_nodes has);
@@ -86,7 +86,7 @@ module _ (old : Image) (reading : Reading) (catalog : Catalog) (known : Ground) 
     kept = kept;
   }
 
-  draws_first : (new : Image) → MayDrawFirst store old new → IsKept new state
+  pub draws_first : (new : Image) → MayDrawFirst store old new → IsKept new state
   draws_first new may = ⊎_elim
       (λ keeps. nodes_stayed new may.gives.others keeps.has)
       (λ applied. number_drawn may.number new may.drawn may.gives.others applied)

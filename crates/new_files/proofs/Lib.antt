@@ -2,4 +2,4 @@ mod TextLemmas
 mod PathLemmas
 pub mod DrawLemmas
 mod PutActs
-mod KeptFiles
+pub mod KeptFiles

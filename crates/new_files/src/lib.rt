@@ -14,4 +14,5 @@ mod putting;
 
 pub use kinds::FileKind;
 pub use laws::{a_drawn_number_has_a_path, a_new_file_may_be_written};
+pub use planning::next_file_number;
 pub use putting::{NewFile, put_new_file};

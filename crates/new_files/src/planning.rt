@@ -22,8 +22,10 @@ pub struct FilePlan {
     pub path: Path,
 }
 
-/// The number of the next file's name, behind which one more can be drawn.
-fn drawable(alloc: Global, nodes: &NodeStore) -> Result<u64, Stop>
+/// The number of the next file's name, as `/next/name` says it, behind which one more can be drawn; it isn't drawn yet. From 1 to
+/// 2^63 - 2. `Damaged` names the nodes, exactly where they say no such number; `Full` comes exactly where the number after it would
+/// reach 2^63; and `NoMemory` where there is none for a path. Takes time with the logarithm of the number of nodes.
+pub fn next_file_number(alloc: Global, nodes: &NodeStore) -> Result<u64, Stop>
     ensures number { IfOk result (λ number. IsDrawn nodes.now.nodes number) }
     ensures stops { IfErr result (λ stop. PlanCause nodes.now.nodes stop) }
 {
@@ -51,7 +53,7 @@ pub fn plan_file(
     ensures form { IfOk result (λ plan. IsFilePath plan.path) }
     ensures stops { IfErr result (λ stop. PlanCause nodes.now.nodes stop) }
 {
-    let number = drawable(alloc, nodes)?;
+    let number = next_file_number(alloc, nodes)?;
     let path = new_path(alloc, table, dir, kind, number)?;
     Ok(FilePlan { number, path })
 }

@@ -46,7 +46,8 @@ pub record OnlyServersGo (old new : Nodes) : Type 0 where
   pub others : (path : List ℕ) → is_server path ≡ false → finite.get new path ≡ finite.get old path
   pub each : (path : List ℕ) → (finite.get new path ≡ finite.get old path) ⊎ (finite.get new path ≡ None)
 
-deleted_as : (nodes : Nodes) (path : List ℕ) (found : Option Node) → finite.get nodes path ≡ found → (rest : Nodes → Result Nodes NodeStop) (after : Nodes) → and_then (applied (delete_op path) nodes) rest ≡ Ok after → rest (finite.remove nodes path) ≡ Ok after
+-- a node that was taken out was there
+pub deleted_as : (nodes : Nodes) (path : List ℕ) (found : Option Node) → finite.get nodes path ≡ found → (rest : Nodes → Result Nodes NodeStop) (after : Nodes) → and_then (applied (delete_op path) nodes) rest ≡ Ok after → rest (finite.remove nodes path) ≡ Ok after
 deleted_as nodes path None is rest after done =
     absurd (let refused = ap (λ o. and_then (and_then (turned (Delete path None) o) (λ left. Ok (with_entry nodes path left))) rest) is in let wrong = sym refused ∙ done in cc)
 deleted_as nodes path (Some node) is rest after done = sym (ap (λ o. and_then (and_then (turned (Delete path None) o) (λ left. Ok (with_entry nodes path left))) rest) is) ∙ done

@@ -3,6 +3,7 @@ pub mod PutLemmas
 pub mod StartLemmas
 mod StartActs
 mod ClearLemmas
-mod KeptStart
+mod Cleared
+pub mod KeptStart
 mod KeptImages
 pub mod KeptGone

@@ -31,7 +31,7 @@ pub record GivesValue (path value : List ℕ) (before after : Nodes) : Type 0 wh
   pub has : HasValue after path value
   pub others : (other : List ℕ) → other ≢ path → map.get after other ≡ map.get before other
 
-is_equal : (o : Ordering) → is_eq o ≡ true → o ≡ Equal
+pub is_equal : (o : Ordering) → is_eq o ≡ true → o ≡ Equal
 is_equal Less is = cc
 is_equal Equal is = refl
 is_equal Greater is = cc

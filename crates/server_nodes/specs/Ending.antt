@@ -1,5 +1,5 @@
 -- How the nodes of servers are taken out.
-use Rattle.std.specs.Prelude.{List, [], ◌∷◌, ℕ, codes, map, None}
+use Rattle.std.specs.Prelude.{List, [], ◌∷◌, ℕ, codes, map, not, None}
 use Rattle.std.specs.FinMap as finite
 use Rattle.host_model.specs.Picture.{Image}
 use Rattle.host_model.specs.State.{HostState}
@@ -10,7 +10,7 @@ use Rattle.node_store.specs.declared.changes.NodeOp.{NodeOp}
 use Rattle.node_store.specs.declared.changes.NodeOp.TheVariants.{Delete}
 use Rattle.node_store.specs.Nodes.{Nodes}
 use Rattle.node_store.specs.Answers.{IsFull}
-use Rattle.node_store.specs.Children.{children_of}
+use Rattle.node_store.specs.Children.{children_of, is_child}
 use Rattle.node_store.specs.Value.{StoreValue}
 use Rattle.node_store.specs.Steps.{MayGive, Gives}
 use Rattle.ground_store.specs.Steps.{Stays}
@@ -25,6 +25,10 @@ servers_in nodes = children_of (codes "/servers") (finite.keys nodes)
 -- each server's node is taken out
 abbrev pub clear_ops : Nodes → List NodeOp
 clear_ops nodes = map delete_op (servers_in nodes)
+
+-- the nodes but those of servers
+abbrev pub without_servers : Nodes → Nodes
+without_servers nodes = finite.retain_keys nodes (λ path. not (is_child (codes "/servers") path))
 
 -- there are no changes and nothing changes, or they are made
 abbrev pub GivesAny : List NodeOp → StoreValue → Image → Image → Type 0

@@ -1,11 +1,10 @@
 // Servers are taken out.
-ghost use Rattle.std.specs.Prelude.{◌≡◌, [], ◌∷◌, None, Some, Ok, IfErr, IfOk, OnOk, IsSome};
+ghost use Rattle.std.specs.Prelude.{◌≡◌, [], ◌∷◌, None, IfErr, IfOk, OnOk, IsSome};
 ghost use Rattle.std.specs.FinMap as map;
-ghost use Rattle.node_store.specs.Nodes.{multi_applied};
 ghost use Rattle.node_store.specs.Steps.{MayGive, Gives};
 ghost use Rattle.ground_store.specs.Acts.{Acts, stop_of};
 ghost use Rattle.server_nodes.specs.Sessions.{server_path};
-ghost use Rattle.server_nodes.specs.Ending.{delete_op, clear_ops, MayGiveAny, GivesAny, TakeCause};
+ghost use Rattle.server_nodes.specs.Ending.{delete_op, clear_ops, without_servers, MayGiveAny, GivesAny, TakeCause};
 
 use crate::paths::{server_path, servers_path};
 use crate::stops::own_stop;
@@ -69,7 +68,7 @@ pub fn end<H: Host>(alloc: Global, ground: &mut Ground<H>, name: &ServerName) ->
 /// then. Takes memory for their paths, and time with their number and the logarithm of the number of nodes.
 pub fn clear<H: Host>(alloc: Global, ground: &mut Ground<H>) -> Result<(), Stop>
     ensures acts { Acts H.state (MayGiveAny (clear_ops ground.old.nodes.nodes) ground.old.nodes) (GivesAny (clear_ops ground.old.nodes.nodes) ground.old.nodes) (stop_of result) ground.old ground.new }
-    ensures nodes { OnOk result (multi_applied (clear_ops ground.old.nodes.nodes) ground.old.nodes.nodes ≡ Ok ground.new.nodes.nodes) }
+    ensures nodes { OnOk result (ground.new.nodes.nodes ≡ without_servers ground.old.nodes.nodes) }
     ensures none { OnOk result (clear_ops ground.old.nodes.nodes ≡ [] → ground.new ≡ ground.old) }
     ensures name { ground.new.nodes.name ≡ ground.old.nodes.name }
     ensures logs { ground.new.logs ≡ ground.old.logs }

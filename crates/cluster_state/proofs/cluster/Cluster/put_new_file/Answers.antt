@@ -1,4 +1,4 @@
-use Rattle.std.proofs.Common.{◌≡◌, IsTrue, refl, subst}
+use Rattle.std.proofs.Common.{IsTrue, refl, subst}
 use Rattle.store_meaning.specs.Ground.{Ground}
 use Rattle.ground_store.specs.Acts.{Acts, GoesOn, stop_of}
 use Rattle.new_files.specs.Putting.{PutsNew}
