@@ -1,0 +1,4 @@
+pub mod MapLemmas
+pub mod StopLemmas
+pub mod FollowLemmas
+mod TestLemmas

@@ -1,0 +1,4 @@
+pub mod Puts
+pub mod Causes
+pub mod Memories
+pub mod Rows
