@@ -1,0 +1,14 @@
+pub mod ShortNodes
+pub mod RootLemmas
+pub mod StayLemmas
+pub mod BehindLemmas
+pub mod CauseLemmas
+pub mod TellLemmas
+pub mod LoadLemmas
+pub mod TableLemmas
+pub mod JoinLemmas
+pub mod FreeLemmas
+pub mod ListedLemmas
+pub mod MarkLemmas
+pub mod DownLemmas
+pub mod ListedRows

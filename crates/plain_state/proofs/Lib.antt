@@ -1,0 +1,13 @@
+pub mod ListLemmas
+pub mod PathLemmas
+pub mod RecordLemmas
+pub mod LogLemmas
+pub mod SameLemmas
+pub mod OrderLemmas
+pub mod ReadLemmas
+pub mod CatalogLemmas
+pub mod TableLemmas
+pub mod PutCauses
+pub mod FileLemmas
+pub mod StateLemmas
+pub mod NoState
